@@ -1,0 +1,25 @@
+-- How the numbers and refusals are printed.
+use Rattle.std.specs.Prelude.{ℕ, List, ◌++◌, if◌then◌else◌, codes, decimal}
+use Rattle.mem_num.specs.declared.full.Full.{Full}
+
+-- an allocator
+abbrev pub alloc_id_text : ℕ → List ℕ
+alloc_id_text number = codes "#" ++ decimal number
+
+-- where a request was refused, as seen from where it began
+abbrev pub place_text : Full → List ℕ
+place_text full = if full.local then codes "local" else codes "parent"
+
+-- a request that passes a limit
+abbrev pub full_text : Full → List ℕ
+full_text full =
+    codes "full " ++ (alloc_id_text full.node.0 ++ (codes " held " ++ (decimal full.held
+    ++ (codes " amount " ++ (decimal full.amount ++ (codes " limit " ++ (decimal full.limit ++ (codes " " ++ place_text full))))))))
+
+-- a request past the largest buffer
+abbrev pub too_large_text : ℕ → List ℕ
+too_large_text request = codes "toolarge " ++ decimal request
+
+-- a call at a closed allocator
+abbrev pub closed_text : ℕ → List ℕ
+closed_text number = codes "closed " ++ alloc_id_text number

@@ -1,0 +1,22 @@
+//! Numbers and refusals of the accounts, and how a request is rounded: what every other crate speaks of.
+#![tactic(auto)]
+
+mod alloc_id;
+mod buffer_ref;
+mod buffer_refused;
+mod closed;
+mod full;
+mod no_memory;
+mod node;
+mod rounding;
+mod too_large;
+
+pub use alloc_id::AllocId;
+pub use buffer_ref::Ref;
+pub use buffer_refused::BufferRefused;
+pub use closed::Closed;
+pub use full::Full;
+pub use no_memory::NoMemory;
+pub use node::Node;
+pub use rounding::{LARGEST, Rounding, rounded};
+pub use too_large::TooLarge;
