@@ -1,0 +1,6 @@
+pub mod ChargeLemmas
+pub mod HeldLemmas
+pub mod BoundLemmas
+pub mod RequestLemmas
+pub mod TreeLemmas
+pub mod PeakLemmas

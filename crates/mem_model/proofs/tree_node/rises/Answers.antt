@@ -1,0 +1,27 @@
+use Rattle.std.proofs.Common.{◌<◌, refl, subst}
+use Rattle.std.specs.List.{AllPairs}
+use Rattle.std.proofs.lemmas.List.{take_all}
+use Rattle.mem_model.specs.declared.tree_node.TreeNode.{TreeNode}
+use Rattle.mem_model.proofs.TreeLemmas.{AllPairs-more, AllPairs-at}
+use Rattle.mem_model.proofs.tree_node.rises.Goals as goal
+
+goes_before : TreeNode → TreeNode → Type 0
+goes_before older newer = older.number.0 < newer.number.0
+
+pub returns-then-not-is_newer_than : goal.returns-then-not-is_newer_than
+unfolding goes_before
+returns-then-not-is_newer_than c =
+    let refused = rw c.if-not-is_newer_than.true at c.is_newer_than.ensures in
+    (λ h. absurd (cc), λ pairs. refused.1 (AllPairs-at goes_before c.args.nodes.now c.loop-i.i _ c.loop-i-test.true pairs))
+
+pub loop-i-preserved : goal.loop-i-preserved
+unfolding goes_before
+loop-i-preserved c =
+    let passed = rw c.if-not-is_newer_than.false at c.is_newer_than.ensures in
+    AllPairs-more goes_before c.args.nodes.now c.loop-i.i _ c.loop-i-test.true c.loop-i.invariant (passed.0 refl)
+
+pub returns : goal.returns
+unfolding goes_before
+returns c =
+    let whole = take_all c.loop-i.i c.args.nodes.now c.loop-i-test.false in
+    (λ _. subst (AllPairs goes_before) whole c.loop-i.invariant, λ _. refl)

@@ -1,0 +1,91 @@
+//! An allocator of a tree, and which lists of them are trees.
+ghost use Rattle.std.specs.Prelude.{◌≡◌, ◌<◌, ◌↔◌, IsTrue, All, AllPairs, Any};
+ghost use Rattle.std.specs.Option.{ForSome};
+ghost use Rattle.mem_model.specs.TreeNode as tree;
+
+use mem_num::AllocId;
+
+/// An allocator, without what it holds. The root has no parent, and reserves nothing.
+#[derive(Clone, Copy, Debug, PartialEq, Eq)]
+pub struct TreeNode {
+    pub number: AllocId,
+    pub parent: Option<AllocId>,
+    /// What the parent sets aside for it, used or not, in bytes.
+    pub reservation: u64,
+    /// The most that it may hold, in bytes.
+    pub limit: u64,
+    pub closed: bool,
+}
+
+impl TreeNode {
+    /// Whether this is an open child of that allocator.
+    pub fn is_open_child(&self, of: AllocId) -> bool
+        ensures { result ≡ tree.is_open_child of.0 self.now }
+    {
+        self.parent == Some(of) && !self.closed
+    }
+
+    fn is_parent_of(&self, child: &TreeNode) -> bool
+        ensures { IsTrue result ↔ tree.IsParentOf child.now self.now }
+    {
+        child.parent == Some(self.number)
+            && self.number.0 < child.number.0
+            && (child.closed || !self.closed)
+    }
+
+    fn is_root_together(&self) -> bool
+        ensures { IsTrue result ↔ tree.IsRootTogether self.now }
+    {
+        self.parent.is_none() == (self.number == AllocId::ROOT)
+    }
+
+    fn is_newer_than(&self, nodes: &[TreeNode]) -> bool
+        ensures { IsTrue result ↔ All (λ older. older.number.0 < self.now.number.0) nodes.now }
+    {
+        nodes.iter().all(|older| older.number.0 < self.number.0)
+    }
+
+    fn has_parent_in(&self, nodes: &[TreeNode]) -> bool
+        ensures { IsTrue result ↔ ForSome self.now.parent (λ _. Any (tree.IsParentOf self.now) nodes.now) }
+    {
+        self.parent.is_none() || nodes.iter().any(|node| node.is_parent_of(self))
+    }
+}
+
+/// Whether these allocators, in this order, are a tree.
+pub fn is_allocator_tree(nodes: &[TreeNode]) -> bool
+    ensures { IsTrue result ↔ tree.IsAllocatorTree nodes.now }
+{
+    if !rises(nodes) || !have_a_root(nodes) {
+        return false;
+    }
+    have_parents(nodes)
+}
+
+fn have_a_root(nodes: &[TreeNode]) -> bool
+    ensures { IsTrue result ↔ All tree.IsRootTogether nodes.now }
+{
+    nodes.iter().all(|node| node.is_root_together())
+}
+
+fn have_parents(nodes: &[TreeNode]) -> bool
+    ensures { IsTrue result ↔ All (λ node. ForSome node.parent (λ _. Any (tree.IsParentOf node) nodes.now)) nodes.now }
+{
+    for node in nodes {
+        if !node.has_parent_in(nodes) {
+            return false;
+        }
+    }
+    true
+}
+
+fn rises(nodes: &[TreeNode]) -> bool
+    ensures { IsTrue result ↔ AllPairs (λ older newer. older.number.0 < newer.number.0) nodes.now }
+{
+    for (i, node) in nodes.iter().enumerate() {
+        if !node.is_newer_than(&nodes[..i]) {
+            return false;
+        }
+    }
+    true
+}
