@@ -1,0 +1,90 @@
+//! Reading to the end of an input, within a limit.
+//!
+//! A turn is one read: it takes at least one byte or finds the end. The loop stops at the end, and once it
+//! has one byte more than the limit, which shows that the input is too long. So it ends whatever it reads.
+ghost use Rattle.std.specs.Prelude.{◌≡◌, [], ◌+◌, ◌<◌, ◌≤◌, length, take, IfOk, IfSome, OnOk, OnErr, IsErrOf};
+ghost use Rattle.std.specs.Io.{StartsWith, ReadsAtMost, appended_bytes};
+ghost use Rattle.std.specs.Io.KnownBytes.{Consumes, IsAtEnd};
+ghost use Rattle.mem_io.specs.Fill.{MakesProgress};
+
+use crate::shelf::ShelfFault;
+use std::io;
+use std::io::{ErrorKind, Read};
+
+// How many bytes a turn asks for at most.
+const PIECE: usize = 65_536;
+
+// What a turn came to.
+#[derive(Drop)]
+enum Turn {
+    Took,
+    Ended,
+}
+
+/// Takes the bytes of a reader up to its end, but at most one more than the limit. Memory is taken in
+/// growing steps.
+pub(crate) fn fill<R: Read>(
+    reader: &mut R,
+    into: &mut Vec<u8>,
+    limit: u64,
+) -> Result<(), ShelfFault>
+    requires { into.old.items ≡ [] }
+    ensures bound { length into.new.items ≤ limit + 1 }
+    ensures within { OnOk result (length into.new.items ≤ limit) }
+    ensures too_long { IsErrOf result ShelfFault.TooLong → length into.new.items ≡ limit + 1 }
+
+    // Where the reader tells its bytes.
+    ensures whole { OnOk result (IfSome (R.remaining reader.old) (λ bytes. into.new.items ≡ bytes)) }
+    ensures front { IfSome (R.remaining reader.old) (λ bytes. StartsWith bytes into.new.items) }
+{
+    let mut buffer = [0u8; PIECE];
+    while into.len() as u64 <= limit {
+        let room = (limit - into.len() as u64).saturating_add(1);
+        let room = room.min(PIECE as u64) as usize;
+        match take_turn(reader, &mut buffer[..room], into)? {
+            Turn::Took => {}
+            Turn::Ended => return Ok(()),
+        }
+    }
+    Err(ShelfFault::TooLong)
+}
+
+// One turn: appends what one read gives, by way of the buffer.
+fn take_turn<R: Read>(reader: &mut R, buffer: &mut [u8], into: &mut Vec<u8>) -> io::Result<Turn>
+    requires { 0 < length buffer.old }
+    ensures progress { IfOk result (λ turn.
+        MakesProgress turn into.old.items into.new.items (R.remaining reader.new)) }
+    ensures bound { length into.new.items ≤ length into.old.items + length buffer.old }
+    ensures grows { StartsWith into.new.items into.old.items }
+    ensures bytes { OnOk result (Consumes (R.remaining reader.old) (R.remaining reader.new)
+        (appended_bytes into.old.items into.new.items)) }
+    ensures err { OnErr result (into.new.items ≡ into.old.items) }
+{
+    let count = read_some(reader, buffer)?;
+    if count == 0 {
+        return Ok(Turn::Ended);
+    }
+    into.extend_from_slice(&buffer[..count])?;
+    Ok(Turn::Took)
+}
+
+// One read, made again where a signal interrupts it.
+fn read_some<R: Read>(reader: &mut R, buffer: &mut [u8]) -> io::Result<usize>
+    ensures bound { ReadsAtMost result buffer.new }
+    ensures bytes { IfOk result (λ count.
+        Consumes (R.remaining reader.old) (R.remaining reader.new) (take count buffer.new)) }
+    ensures end { IfOk result (λ count.
+        count ≡ 0 → 0 < length buffer.old → IsAtEnd (R.remaining reader.new)) }
+{
+    for _ in 0..u64::MAX {
+        match reader.read(buffer) {
+            Ok(count) => return Ok(count),
+            Err(error) if error.kind() == ErrorKind::Interrupted => {}
+            Err(error) => return Err(error),
+        }
+    }
+    Err(ErrorKind::Interrupted.into())
+}
+
+#[cfg(test)]
+mod tests;
