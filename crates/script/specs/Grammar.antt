@@ -1,0 +1,72 @@
+-- What a line says, and which lines of text are which script.
+use Rattle.std.specs.Prelude.{◌≡◌, ℕ, ◌≤◌, Bool, true, false, ◌&&◌, List, [], ◌∷◌, length, map, drop, count_by, if◌then◌else◌, Option, Some, None, codes, option_map, All}
+use Rattle.std.specs.List.{flat_map}
+use Rattle.std.specs.Str.{bytes_eq}
+use Rattle.script.specs.Words.{is_name, number_of, commands_of}
+use Rattle.script.specs.declared.form.Form.{Form}
+use Rattle.script.specs.declared.form.Form.TheVariants.{Trace, Drive}
+use Rattle.script.specs.declared.line.Line.{Line}
+use Rattle.script.specs.declared.line.Line.TheVariants.{Root, Buffer, Tree}
+
+-- what the words of a line say, if they say a line: `tree`, `root LIMIT`, `buffer NAME ALLOC SIZE`
+unfoldable pub line_of : List (List ℕ) → Option Line
+line_of (word ∷ []) = if bytes_eq word (codes "tree") then Some Tree else None
+line_of (word ∷ limit ∷ []) = if bytes_eq word (codes "root") then option_map Root (number_of limit) else None
+line_of (word ∷ name ∷ at ∷ size ∷ []) =
+    if bytes_eq word (codes "buffer") && is_name name && is_name at
+    then option_map (Buffer name at) (number_of size)
+    else None
+line_of words = None
+
+-- a line that sets the root's limit
+abbrev pub is_root : Line → Bool
+is_root (Root limit) = true
+is_root line = false
+
+-- a line that asks for the tree
+abbrev pub is_tree : Line → Bool
+is_tree Tree = true
+is_tree line = false
+
+-- the lines that may stand in a script of this form
+abbrev pub stands_in : Form → Line → Bool
+stands_in Trace line = true
+stands_in Drive Tree = false
+stands_in Drive line = true
+
+-- the root's limit: that of the root line, which stands first, or else the largest limit
+abbrev pub limit_of : List Line → ℕ
+limit_of (Root limit ∷ more) = limit
+limit_of lines = 9223372036854775807
+
+-- a script: the root's limit, and its sections
+pub record ScriptParts : Type 0 where
+  pub limit : ℕ
+  pub sections : List (List Line)
+
+-- the lines of all sections, in order
+abbrev pub lines_of : ScriptParts → List Line
+lines_of script = flat_map (λ section. section) script.sections
+
+-- these lines of text say these lines of a script, one for each that isn't skipped
+pub record Says (form : Form) (text : List (List ℕ)) (said : List Line) : Type 0 where
+  pub each : map line_of (commands_of text) ≡ map Some said
+  pub root_first : All (λ line. is_root line ≡ false) (drop 1 said)
+  pub in_form : All (λ line. stands_in form line ≡ true) said
+  pub few_lines : length said ≤ 1000000
+  pub few_trees : count_by is_tree said ≤ 1000
+
+-- these lines of text are this script
+pub record IsScript (form : Form) (text : List (List ℕ)) (script : ScriptParts) : Type 0 where
+  pub lines : Says form text (lines_of script)
+  pub one_section : script.sections ≡ lines_of script ∷ []
+  pub limit : script.limit ≡ limit_of (lines_of script)
+
+-- these lines of text are no script
+abbrev pub IsUnreadable : Form → List (List ℕ) → Type 0
+IsUnreadable form text = (script : ScriptParts) → IsScript form text script → ⊥
+
+-- a text is at most one script
+abbrev pub TextsHaveOneReading : Type 0
+TextsHaveOneReading =
+    (form : Form) (text : List (List ℕ)) (a b : ScriptParts) → IsScript form text a → IsScript form text b → a ≡ b

@@ -1,0 +1,7 @@
+-- The definitions of this crate, those first that others stand on.
+pub mod Words
+pub mod Grammar
+pub mod Reading
+pub mod RootTree
+pub mod Trace
+pub mod Shown

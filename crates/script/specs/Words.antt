@@ -1,0 +1,39 @@
+-- The words of a line, and the names and numbers among them. A line and a word are lists of bytes.
+use Rattle.std.specs.Prelude.{ℕ, Bool, true, not, ◌&&◌, ◌||◌, nat_le, nat_lt, ◌==◌, List, [], ◌∷◌, length, filter, map, if◌then◌else◌, Option, Some, None, slice_index}
+use Rattle.std.specs.List.{slice_split, list_all}
+use Rattle.std.specs.Char.{is_ascii_alphanumeric, is_ascii_digit}
+use Rattle.std.specs.Str.Parse.{digits_value}
+
+-- a space or a tab
+abbrev pub is_blank : ℕ → Bool
+is_blank byte = (byte == 32) || (byte == 9)
+
+-- the words of a line: its parts between blanks, without the empty ones
+abbrev pub words_of : List ℕ → List (List ℕ)
+words_of line = filter (λ word. nat_lt 0 (length word)) (slice_split is_blank line)
+
+-- a letter, a digit, '_', '-' or '.'
+abbrev pub is_name_byte : ℕ → Bool
+is_name_byte byte = is_ascii_alphanumeric byte || (byte == 95) || (byte == 45) || (byte == 46)
+
+-- a name is 1 to 32 bytes, each a letter, a digit, '_', '-' or '.'
+unfoldable pub is_name : List ℕ → Bool
+is_name word = nat_lt 0 (length word) && nat_le (length word) 32 && list_all is_name_byte word
+
+-- a number is one or more digits with a value of at most 2 ^ 63 - 1
+unfoldable pub is_number : List ℕ → Bool
+is_number word =
+    nat_lt 0 (length word) && list_all is_ascii_digit word && nat_le (digits_value 10 word) 9223372036854775807
+
+-- the value of a number
+abbrev pub number_of : List ℕ → Option ℕ
+number_of word = if is_number word then Some (digits_value 10 word) else None
+
+-- a line is skipped if it has no words, or its first word begins with '#'
+abbrev pub is_skipped : List (List ℕ) → Bool
+is_skipped [] = true
+is_skipped (word ∷ more) = slice_index word 0 == 35
+
+-- the words of each line that isn't skipped
+abbrev pub commands_of : List (List ℕ) → List (List (List ℕ))
+commands_of text = filter (λ words. not (is_skipped words)) (map words_of text)

@@ -1,0 +1,25 @@
+//! The script language: bytes are read as a script, a root's limit and sections of lines, and a script is run as a trace.
+#![tactic(auto)]
+
+mod form;
+mod line;
+mod name;
+mod read;
+mod reading;
+mod refused;
+mod root_tree;
+mod run;
+mod script;
+mod section;
+mod text;
+mod trace;
+mod word;
+
+pub use form::Form;
+pub use line::Line;
+pub use name::Name;
+pub use read::{read_script, texts_have_one_reading};
+pub use refused::ScriptRefused;
+pub use run::run_trace;
+pub use script::Script;
+pub use section::Section;
