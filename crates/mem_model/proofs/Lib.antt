@@ -1,3 +1,4 @@
+-- The lemmas of this crate.
 pub mod ChargeLemmas
 pub mod HeldLemmas
 pub mod BoundLemmas

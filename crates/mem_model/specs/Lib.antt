@@ -1,3 +1,4 @@
+-- The definitions of this crate, those first that others stand on.
 pub mod Reservation
 pub mod Charge
 pub mod TreeNode

@@ -19,12 +19,12 @@ pub record IsParentOf (child parent : TreeNode) : Type 0 where
   pub older : parent.number.0 < child.number.0
   pub open_ : child.closed ≡ false → parent.closed ≡ false
 
--- a node has no parent exactly where it is number 0
-abbrev pub IsRootTogether : TreeNode → Type 0
-IsRootTogether node = (node.parent ≡ None) ↔ (node.number.0 ≡ 0)
+-- a node has no parent exactly where it is the root, number 0
+abbrev pub HasParentUnlessRoot : TreeNode → Type 0
+HasParentUnlessRoot node = (node.parent ≡ None) ↔ (node.number.0 ≡ 0)
 
 -- numbers rise along the list, so they differ; number 0 is the root, which alone has no parent; every other node's parent is in the list
 pub record IsAllocatorTree (nodes : List TreeNode) : Type 0 where
   pub ordered : AllPairs (λ older newer. older.number.0 < newer.number.0) nodes
-  pub root : All IsRootTogether nodes
+  pub root : All HasParentUnlessRoot nodes
   pub parents : All (λ node. ForSome node.parent (λ _. Any (IsParentOf node) nodes)) nodes

@@ -1,5 +1,5 @@
 //! All that could be held at once.
-ghost use Rattle.std.specs.Prelude.{◌≡◌, ◌↔◌, ◌^◌, ◌<◌, ◌+◌, IsTrue, sum_by};
+ghost use Rattle.std.specs.Prelude.{◌↔◌, ◌^◌, ◌<◌, IsTrue};
 ghost use Rattle.mem_model.specs.Bound.{all_of};
 
 use crate::charge::Charge;

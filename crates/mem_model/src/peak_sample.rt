@@ -1,9 +1,6 @@
 //! Moments at which peaks are measured.
-ghost use Rattle.std.specs.Prelude.{◌≡◌, ◌↔◌, IsTrue, ◌^◌, ◌<◌, All};
-ghost use Rattle.std.specs.List.{list_any};
+ghost use Rattle.std.specs.Prelude.{◌≡◌, ◌↔◌, IsTrue, All};
 ghost use Rattle.mem_model.specs.PeakSample as spec;
-ghost use Rattle.mem_model.specs.TreeNode.{IsAllocatorTree};
-ghost use Rattle.mem_model.specs.Bound.{all_of};
 
 use crate::bound::fits;
 use crate::charge::Charge;

@@ -1,5 +1,5 @@
 //! A request: a charge on trial.
-ghost use Rattle.std.specs.Prelude.{◌≡◌, ◌∷◌, ◌^◌, ◌<◌, IfOk, All};
+ghost use Rattle.std.specs.Prelude.{◌≡◌, ◌∷◌, ◌^◌, ◌<◌, IfOk};
 ghost use Rattle.mem_model.specs.TreeNode.{IsAllocatorTree};
 ghost use Rattle.mem_model.specs.Bound.{all_of};
 ghost use Rattle.mem_model.specs.Request as spec;
@@ -56,7 +56,6 @@ pub fn is_past_limit(nodes: &[TreeNode], charges: &[Charge], node: &TreeNode) ->
 }
 
 /// The lowest level that a request takes past its limit, and so the one that refuses it; `None` where it fits.
-
 pub fn refusing_level(
     alloc: Global,
     nodes: &[TreeNode],

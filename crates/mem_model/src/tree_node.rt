@@ -33,8 +33,8 @@ impl TreeNode {
             && (child.closed || !self.closed)
     }
 
-    fn is_root_together(&self) -> bool
-        ensures { IsTrue result ↔ tree.IsRootTogether self.now }
+    fn has_parent_unless_root(&self) -> bool
+        ensures { IsTrue result ↔ tree.HasParentUnlessRoot self.now }
     {
         self.parent.is_none() == (self.number == AllocId::ROOT)
     }
@@ -63,9 +63,9 @@ pub fn is_allocator_tree(nodes: &[TreeNode]) -> bool
 }
 
 fn have_a_root(nodes: &[TreeNode]) -> bool
-    ensures { IsTrue result ↔ All tree.IsRootTogether nodes.now }
+    ensures { IsTrue result ↔ All tree.HasParentUnlessRoot nodes.now }
 {
-    nodes.iter().all(|node| node.is_root_together())
+    nodes.iter().all(|node| node.has_parent_unless_root())
 }
 
 fn have_parents(nodes: &[TreeNode]) -> bool
