@@ -23,3 +23,7 @@ too_large_text request = codes "toolarge " ++ decimal request
 -- a call at a closed allocator
 abbrev pub closed_text : ℕ → List ℕ
 closed_text number = codes "closed " ++ alloc_id_text number
+
+-- a use of a chunk that isn't counted
+abbrev pub released_text : ℕ → ℕ → List ℕ
+released_text chunk number = codes "released chunk " ++ (decimal chunk ++ (codes " at " ++ alloc_id_text number))

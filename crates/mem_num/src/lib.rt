@@ -8,6 +8,7 @@ mod closed;
 mod full;
 mod no_memory;
 mod node;
+mod released;
 mod rounding;
 mod too_large;
 
@@ -18,5 +19,6 @@ pub use closed::Closed;
 pub use full::Full;
 pub use no_memory::NoMemory;
 pub use node::Node;
+pub use released::Released;
 pub use rounding::{LARGEST, Rounding, rounded};
 pub use too_large::TooLarge;

@@ -1,0 +1,12 @@
+//! The ledgers of one chunk: how many references each allocator has to it, and which of them is charged for it.
+#![tactic(auto)]
+
+mod after;
+mod counts;
+mod ledger;
+mod ledgers;
+mod place;
+
+pub use after::After;
+pub use ledger::Ledger;
+pub use ledgers::Ledgers;
