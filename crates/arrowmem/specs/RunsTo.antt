@@ -1,5 +1,5 @@
 -- What a run of the program comes to: its status and its output, by the words of its command line and the files.
-use Rattle.std.specs.Prelude.{◌≡◌, ℕ, List, ◌++◌, take, Option, Some, None, Ok, Err, codes}
+use Rattle.std.specs.Prelude.{◌≡◌, ◌≢◌, ℕ, List, ◌++◌, take, Option, Some, None, Ok, Err, codes}
 use Rattle.std.specs.Str.Lines.{lines}
 use Rattle.mem_io.specs.Shelf.{Told, reading}
 use Rattle.mem_io.specs.declared.shelf.ShelfFault.TheVariants.{Failed, TooLong as Longer}
@@ -32,6 +32,12 @@ pub data Answers (words : List (List ℕ)) (files : Told) : Status → List ℕ 
   read_fault : {name : List ℕ} → trace_file words ≡ Some name → reading files name max_input ≡ Err Failed → Answers words files ReadFault (file_line (codes "read fault: ") name)
   too_long : {name : List ℕ} → trace_file words ≡ Some name → reading files name max_input ≡ Err Longer → Answers words files TooLong (file_line (codes "too long: ") name)
   no_memory : Answers words files NoMemory no_memory_text
+
+-- but for want of memory, words have at most one answer over some files: so each status comes just where its cause stands
+abbrev pub WordsHaveOneAnswer : Type 0
+WordsHaveOneAnswer =
+    (words : List (List ℕ)) (files : Told) (one other : Status) (output output' : List ℕ) → Answers words files one output → Answers words files other output'
+    → one ≢ NoMemory → other ≢ NoMemory → (one ≡ other) × (output ≡ output')
 
 -- how the one call of the sink ends: an output is written whole, or a first part of it where the sink fails or finds no memory
 pub data Delivers (status : Status) (output : List ℕ) : Status → List ℕ → Type 0 where
