@@ -29,7 +29,6 @@ impl RootTree {
     }
 
     /// Asks for a buffer at the root.
-
     pub(crate) fn grant(&mut self, request: u64) -> Result<Ref, BufferRefused>
         requires { self.old.drawn + 1 < 2 ^ 32 }
         ensures answers { AnswersAs self.old self.new result (root_grant request) }
