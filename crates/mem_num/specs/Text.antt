@@ -1,6 +1,8 @@
 -- How the numbers and refusals are printed.
 use Rattle.std.specs.Prelude.{ℕ, List, ◌++◌, if◌then◌else◌, codes, decimal}
 use Rattle.mem_num.specs.declared.full.Full.{Full}
+use Rattle.mem_num.specs.declared.child_refused.ChildRefused.{ChildRefused}
+use Rattle.mem_num.specs.declared.child_refused.ChildRefused.TheVariants.{ReserveAboveLimit, Closed, Nodes, Full as ParentFull}
 
 -- an allocator
 abbrev pub alloc_id_text : ℕ → List ℕ
@@ -27,3 +29,10 @@ closed_text number = codes "closed " ++ alloc_id_text number
 -- a use of a chunk that isn't counted
 abbrev pub released_text : ℕ → ℕ → List ℕ
 released_text chunk number = codes "released chunk " ++ (decimal chunk ++ (codes " at " ++ alloc_id_text number))
+
+-- a child that was not made
+abbrev pub child_refused_text : ChildRefused → List ℕ
+child_refused_text (ReserveAboveLimit reservation limit) = codes "above " ++ (decimal reservation ++ (codes " " ++ decimal limit))
+child_refused_text (Closed closed) = closed_text closed.node.0
+child_refused_text (Nodes next) = codes "nodes " ++ decimal next
+child_refused_text (ParentFull full) = full_text full
