@@ -63,7 +63,7 @@ up_to before later e d k rises upto =
     ]
 
 -- no node up to e is a child of e
-no_child_up_to : (before later : List TreeNode) (e : TreeNode) → Rises (before ++ e ∷ later) → IsOlderTree (before ++ e ∷ later) → HasNoChild e.number.0 (before ++ e ∷ [])
+pub no_child_up_to : (before later : List TreeNode) (e : TreeNode) → Rises (before ++ e ∷ later) → IsOlderTree (before ++ e ∷ later) → HasNoChild e.number.0 (before ++ e ∷ [])
 no_child_up_to before later e rises older k d within =
     let front = before ++ e ∷ [] in
     let size : length front ≡ length before + 1 = length-append before (e ∷ []) in
@@ -76,7 +76,7 @@ no_child_up_to before later e rises older k d within =
     rw same (number_is e.number.0 node.parent node.closed (λ p is. let less : p.0 < node.number.0 = parents p is in omega arith))
 
 -- what each of these nodes holds by the whole list is what it holds by the nodes behind it
-Agrees : (ℕ → ℕ) → List Charge → List TreeNode → Type 0
+unfoldable pub Agrees : (ℕ → ℕ) → List Charge → List TreeNode → Type 0
 Agrees held charges [] = Unit {0}
 Agrees held charges (node ∷ nodes) = (held node.number.0 ≡ held_of nodes charges node.number.0) × Agrees held charges nodes
 
@@ -90,7 +90,7 @@ agrees before (e ∷ nodes) charges rises older =
     let rest : Agrees (held_of ((before ++ e ∷ []) ++ nodes) charges) charges nodes = agrees (before ++ e ∷ []) nodes charges (subst Rises (sym joined) rises) (subst IsOlderTree (sym joined) older) in
     (at_e, subst (λ xs. Agrees (held_of xs charges) charges nodes) joined rest)
 
-held_of-by : (held : ℕ → ℕ) (charges : List Charge) (nodes : List TreeNode) (n : ℕ) → Agrees held charges nodes → held_of nodes charges n ≡ charged_at charges n + counted_children held nodes n
+pub held_of-by : (held : ℕ → ℕ) (charges : List Charge) (nodes : List TreeNode) (n : ℕ) → Agrees held charges nodes → held_of nodes charges n ≡ charged_at charges n + counted_children held nodes n
 unfolding Agrees
 held_of-by held charges [] n h = sym (add-zero (charged_at charges n))
 held_of-by held charges (node ∷ nodes) n h =

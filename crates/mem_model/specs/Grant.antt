@@ -11,11 +11,7 @@ use Rattle.mem_model.specs.declared.charge.Charge.{Charge}
 use Rattle.mem_model.specs.declared.tree_node.TreeNode.{TreeNode}
 use Rattle.mem_model.specs.Request.{refusing_level, refusal_of}
 use Rattle.mem_model.specs.PeakSample.{request_sample}
-use Rattle.mem_model.specs.TreeState.{TreeState, CallResult, charges_in, is_open}
-
--- an answer that changes nothing
-abbrev pub unchanged : TreeState → Result Ref BufferRefused → CallResult (Result Ref BufferRefused)
-unchanged state answer = record { answer = answer; state = state; samples = [] }
+use Rattle.mem_model.specs.TreeState.{TreeState, CallResult, unchanged, charges_in, is_open, closed_at}
 
 -- what a charge is answered, by the level that refuses it
 abbrev pub charge_answer : TreeState → Charge → Option TreeNode → Result Ref BufferRefused
@@ -38,6 +34,6 @@ unfoldable pub grant_result : TreeState → AllocId → ℕ → CallResult (Resu
 grant_result state at request =
     let size = rounded_size Power request in
     if nat_lt LARGEST size then unchanged state (Err (TooLarge (record { request = request })))
-    else if not (is_open state at.0) then unchanged state (Err (Closed (record { node = at; uses = 0 })))
+    else if not (is_open state at.0) then unchanged state (Err (Closed (closed_at at)))
     else if size == 0 then unchanged state (Ok (record { chunk = 0; alloc = at; size = 0 }))
     else charge_result state (record { at = at; amount = size })

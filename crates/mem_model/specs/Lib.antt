@@ -3,6 +3,7 @@ pub mod Reservation
 pub mod Charge
 pub mod TreeNode
 pub mod Held
+pub mod Balance
 pub mod Bound
 pub mod WorstCase
 pub mod Request
@@ -10,3 +11,11 @@ pub mod PeakSample
 pub mod Chunk
 pub mod TreeState
 pub mod Grant
+pub mod Child
+pub mod Close
+pub mod Release
+pub mod Headroom
+pub mod MeasuredTree
+pub mod LawfulState
+pub mod PlainTree
+pub mod PlainFields

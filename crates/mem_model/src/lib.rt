@@ -2,20 +2,39 @@
 //! definition in `specs/`, and beside it a plain, slow program whose contract is the definition.
 #![tactic(auto)]
 
+mod balance;
 mod bound;
 mod charge;
 mod chunk;
+mod headroom;
 mod held;
+mod laws;
 mod peak_sample;
+mod plain_tree;
 mod request;
+mod sample;
 mod tree_node;
 #[cfg(test)]
 mod worked_examples;
 
+pub use balance::{
+    a_fall_passes_on_what_was_beyond_the_reservation,
+    a_rise_passes_on_what_is_beyond_the_reservation, numbers_that_balance_are_held,
+};
 pub use bound::fits;
 pub use charge::{Charge, charged_at};
 pub use chunk::{Chunk, charges_of};
+pub use headroom::{
+    a_parent_leaves_its_headroom_and_the_unused_reservation,
+    a_request_within_the_headroom_is_not_refused, an_allocator_is_over_a_limit_where_its_parent_is,
+};
 pub use held::held_of;
+pub use laws::{
+    closed_allocator_has_no_uses, each_call_keeps_the_law, numbers_stay_small,
+    opened_tree_is_lawful, samples_raise_peaks,
+};
 pub use peak_sample::{PeakSample, peak_of};
+pub use plain_tree::PlainTree;
 pub use request::{is_past_limit, levels_of, refusal_of, refusing_level};
+pub use sample::request_sample;
 pub use tree_node::{TreeNode, is_allocator_tree};

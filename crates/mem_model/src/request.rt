@@ -11,7 +11,7 @@ use mem_num::Full;
 use std::alloc::{AllocError, Global};
 
 // The charges with the one on trial before them.
-fn with_request(
+pub fn with_request(
     alloc: Global,
     charges: &[Charge],
     request: Charge,

@@ -1,0 +1,43 @@
+-- What the plain tree of one thread shows: its state, and every moment at which peaks were measured.
+use Rattle.std.specs.Prelude.{◌≡◌, ℕ, ◌<◌, ◌≤◌, ◌^◌, true, List, [], ◌++◌, All}
+use Rattle.mem_num.specs.declared.alloc_id.AllocId.{AllocId}
+use Rattle.mem_model.specs.declared.charge.Charge.{Charge}
+use Rattle.mem_model.specs.PeakSample.{PeakSample, IsSound}
+use Rattle.mem_model.specs.TreeState.{TreeState, CallResult, opened, is_open}
+use Rattle.mem_model.specs.Child.{most_nodes}
+use Rattle.mem_model.specs.LawfulState.{IsLawfulState}
+
+-- a tree, and the moments at which its peaks were measured, the oldest first
+pub record SampledTree : Type 0 where
+  pub state : TreeState
+  pub samples : List PeakSample
+
+-- a tree with its root alone, on which nothing was measured
+abbrev pub opened_sampled : ℕ → SampledTree
+opened_sampled limit = record { state = opened limit; samples = [] }
+
+-- a call was answered as its definition says: it left that state, and measured those moments
+pub record Answers {A : Type 0} (call : CallResult A) (old new : SampledTree) (told : A) : Type 0 where
+  pub answer : told ≡ call.answer
+  pub state : new.state ≡ call.state
+  pub samples : new.samples ≡ old.samples ++ call.samples
+
+-- what holds of every plain tree: chunk numbers have 32 bits, and no number of a sample wraps
+pub record IsSoundTree (tree : SampledTree) : Type 0 where
+  pub lawful : IsLawfulState tree.state
+  pub drawn : tree.state.drawn < 2 ^ 32
+  pub samples : All IsSound tree.samples
+
+-- a charge that can become a chunk, if no limit stops it
+pub record IsChargeable (state : TreeState) (request : Charge) : Type 0 where
+  pub open_ : is_open state request.at.0 ≡ true
+  pub some : 1 ≤ request.amount
+  pub few : request.amount ≤ 2 ^ 30
+
+-- a child that can be made, if no limit stops its reservation
+pub record IsNewChild (state : TreeState) (parent : AllocId) (reservation limit : ℕ) : Type 0 where
+  pub open_ : is_open state parent.0 ≡ true
+  pub room : state.next < most_nodes
+  pub reserves : reservation ≤ limit
+  pub small : reservation ≤ 2 ^ 40
+  pub limited : limit < 2 ^ 63

@@ -1,0 +1,148 @@
+//! The tree of one thread as its definition, slow: each call computes by the definitions alone, and keeps no held number and
+//! no peak.
+ghost use Rattle.std.specs.Prelude.{◌≡◌, ◌<◌, ◌≤◌, ◌^◌, ◌↔◌, IsTrue, IfOk};
+ghost use Rattle.mem_model.specs.Request as trial;
+ghost use Rattle.mem_model.specs.PeakSample.{IsSound, request_sample};
+ghost use Rattle.mem_model.specs.TreeState as tree;
+ghost use Rattle.mem_model.specs.PlainTree.{opened_sampled};
+
+use crate::charge::Charge;
+use crate::chunk::{Chunk, charges_of};
+use crate::peak_sample::PeakSample;
+use crate::request::{refusal_of, refusing_level};
+use crate::sample::request_sample;
+use crate::tree_node::TreeNode;
+use mem_num::{AllocId, Full};
+use std::alloc::{AllocError, Global};
+use std::marker::Model;
+
+mod child;
+mod close;
+mod grant;
+mod headroom;
+mod node;
+mod release;
+#[cfg(test)]
+mod tests;
+
+/// A tree of one thread. After Arrow Java's `RootAllocator`, which keeps the numbers that are summed here.
+#[derive(Drop)]
+pub struct PlainTree {
+    nodes: Vec<TreeNode>,
+    chunks: Vec<Chunk>,
+    samples: Vec<PeakSample>,
+    next: u32,
+    drawn: u32,
+}
+
+impl Model for PlainTree {
+    ghost use Rattle.mem_model.specs.PlainTree.{SampledTree};
+
+    ghost Value = { SampledTree };
+
+    ghost use Rattle.mem_model.specs.PlainFields as fields;
+
+    ghost view = { fields.sampled_tree };
+
+    ghost invariant = { fields.IsSound };
+}
+
+fn root(limit: u64) -> TreeNode
+    ensures { result ≡ tree.root_node limit }
+{
+    TreeNode {
+        number: AllocId::ROOT,
+        parent: None,
+        reservation: 0,
+        limit,
+        closed: false,
+    }
+}
+
+impl PlainTree {
+    /// A tree with its root alone, which may hold `limit` bytes.
+    pub fn open(alloc: Global, limit: u64) -> Result<PlainTree, AllocError>
+        requires limited { limit ≤ 9_223_372_036_854_775_807 }
+        ensures opened { IfOk result (λ made. made ≡ opened_sampled limit) }
+    {
+        let mut nodes = Vec::new(alloc);
+        nodes.push(root(limit))?;
+        Ok(PlainTree {
+            nodes,
+            chunks: Vec::new(alloc),
+            samples: Vec::new(alloc),
+            next: 1,
+            drawn: 0,
+        })
+    }
+
+    /// Whether a chunk's number is left, as a request for a buffer asks.
+    pub fn has_chunk_number(&self) -> bool
+        ensures { IsTrue result ↔ (self.now.state.drawn < 4_294_967_295) }
+    {
+        self.drawn < u32::MAX
+    }
+
+    /// Whether an allocator's number is left, as a child asks.
+    pub fn has_node_number(&self) -> bool
+        ensures { IsTrue result ↔ (self.now.state.next < 4_294_967_295) }
+    {
+        self.next < u32::MAX
+    }
+
+    fn is_open(&self, at: AllocId) -> bool
+        ensures { result ≡ tree.is_open self.now.state at.0 }
+    {
+        self.nodes
+            .iter()
+            .any(|node| node.number == at && !node.closed)
+    }
+
+    fn charges(&self, alloc: Global) -> Result<Vec<Charge>, AllocError>
+        ensures { IfOk result (λ charges. charges.items ≡ tree.charges_in self.now.state) }
+    {
+        charges_of(alloc, &self.chunks)
+    }
+
+    // The level that refuses a request.
+    fn refusing(&self, alloc: Global, request: Charge) -> Result<Option<TreeNode>, AllocError>
+        requires small { request.amount ≤ 2 ^ 40 }
+        ensures level { IfOk result (λ level.
+            level ≡ trial.refusing_level self.now.state.nodes (tree.charges_in self.now.state) request) }
+    {
+        let charges = self.charges(alloc)?;
+        refusing_level(alloc, &self.nodes, &charges, request)
+    }
+
+    fn refusal(&self, alloc: Global, request: Charge, level: TreeNode) -> Result<Full, AllocError>
+        requires small { request.amount ≤ 2 ^ 40 }
+        ensures numbers { IfOk result (λ full.
+            full ≡ trial.refusal_of self.now.state.nodes (tree.charges_in self.now.state) request level) }
+    {
+        let charges = self.charges(alloc)?;
+        refusal_of(alloc, &self.nodes, &charges, request, level)
+    }
+
+    // The moment of a request.
+    fn sample(&self, alloc: Global, request: Charge) -> Result<PeakSample, AllocError>
+        requires small { request.amount ≤ 2 ^ 40 }
+        ensures sample { IfOk result (λ sample.
+            sample ≡ request_sample self.now.state.nodes (tree.charges_in self.now.state) request) }
+        ensures sound { IfOk result IsSound }
+    {
+        let charges = self.charges(alloc)?;
+        request_sample(alloc, &self.nodes, &charges, request)
+    }
+
+    fn uses(&self, at: AllocId) -> u64
+        ensures { result ≡ tree.uses_of self.now.state at.0 }
+    {
+        let ledgers = self.chunks.iter().filter(|chunk| chunk.owner == at).count();
+        let children = self
+            .nodes
+            .iter()
+            .filter(|node| node.is_open_child(at))
+            .count();
+        (ledgers + children) as u64
+    }
+}
