@@ -1,0 +1,58 @@
+-- What a walk from an allocator towards the root does to the rows.
+use Rattle.std.specs.Prelude.{◌≡◌, ℕ, ◌+◌, max, nat_lt, ◌==◌, if◌then◌else◌, List, ◌∷◌, [], length, Option, Some, None, Result, Ok, Err}
+use Rattle.mem_num.specs.declared.alloc_id.AllocId.{AllocId}
+use Rattle.mem_num.specs.declared.full.Full.{Full}
+use Rattle.mem_model.specs.declared.charge.Charge.{Charge}
+use Rattle.mem_model.specs.declared.tree_node.TreeNode.{TreeNode}
+use Rattle.mem_model.specs.Balance.{Balances}
+use Rattle.mem_model.specs.Request.{refusing_level, refusal_of}
+use Rattle.mem_model.specs.PeakSample.{request_sample}
+use Rattle.mem_model.specs.MeasuredTree.{raised_peaks}
+use Rattle.alloc_tree.specs.declared.row.Row.{Row}
+use Rattle.alloc_tree.specs.Rows.{nodes_in, held_in, peaks_in, uses_in}
+
+-- the allocators are the same ones, with as many uses
+pub record KeepsNodes (old new : List (Option Row)) : Type 0 where
+  pub nodes : nodes_in new ≡ nodes_in old
+  pub uses : uses_in new ≡ uses_in old
+  pub length : length new ≡ length old
+
+-- this is what a request is refused with, or None where it isn't
+abbrev pub IsRefusal : List TreeNode → List Charge → Charge → Option Full → Type 0
+IsRefusal nodes charges request None = refusing_level nodes charges request ≡ None
+IsRefusal nodes charges request (Some full) = (level : TreeNode) × (refusing_level nodes charges request ≡ Some level) × (full ≡ refusal_of nodes charges request level)
+
+-- the rows hold a request's charge besides, also where it is refused, and its sample has raised the peaks
+pub record AddsCharge (charges : List Charge) (request : Charge) (old new : List (Option Row)) (answer : Option Full) : Type 0 where
+  pub held : Balances (nodes_in old) (request ∷ charges) (held_in new)
+  pub refusal : IsRefusal (nodes_in old) charges request answer
+  pub peaks : peaks_in new ≡ raised_peaks (peaks_in old) (request_sample (nodes_in old) charges request ∷ [])
+
+-- what is charged after a request: its charge besides, unless it was refused
+abbrev pub charges_after : Charge → List Charge → Result (Unit {0}) Full → List Charge
+charges_after request charges (Ok done) = request ∷ charges
+charges_after request charges (Err full) = charges
+
+-- what a request was refused with
+abbrev pub refusal_in : Result (Unit {0}) Full → Option Full
+refusal_in (Ok done) = None
+refusal_in (Err full) = Some full
+
+-- the rows answer a request, and its sample has raised the peaks
+pub record AnswersRequest (charges : List Charge) (request : Charge) (old new : List (Option Row)) (answer : Result (Unit {0}) Full) : Type 0 where
+  pub held : Balances (nodes_in old) (charges_after request charges answer) (held_in new)
+  pub refusal : IsRefusal (nodes_in old) charges request (refusal_in answer)
+  pub peaks : peaks_in new ≡ raised_peaks (peaks_in old) (request_sample (nodes_in old) charges request ∷ [])
+
+-- the refusal of a request at some allocator, once an amount was added at a level: the one before, or else that of this level
+abbrev pub refusal_after : AllocId → AllocId → Row → ℕ → Option Full → Option Full
+refusal_after at level row amount (Some full) = Some full
+refusal_after at level row amount None =
+    if nat_lt row.limit (row.held + amount)
+    then Some (record { node = level; held = row.held; amount = amount; limit = row.limit; local = level.0 == at.0 })
+    else None
+
+-- a row with an amount more, whose peak sees it where nothing was refused up to there
+abbrev pub with_charge : Row → ℕ → Option Full → Row
+with_charge row amount None = record row { held = row.held + amount; peak = max row.peak (row.held + amount) }
+with_charge row amount (Some full) = record row { held = row.held + amount }

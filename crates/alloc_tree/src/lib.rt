@@ -1,0 +1,18 @@
+//! The tree of allocators of one thread, and the names of its allocators.
+#![tactic(auto)]
+
+mod chunks;
+mod name;
+mod name_refused;
+mod names;
+mod row;
+mod rows;
+mod solo_tree;
+mod uses;
+mod walk;
+
+pub use name::Name;
+pub use name_refused::NameRefused;
+pub use names::Names;
+pub use rows::MOST_NODES;
+pub use solo_tree::SoloTree;

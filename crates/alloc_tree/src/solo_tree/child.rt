@@ -1,0 +1,50 @@
+//! Making a child in a tree.
+ghost use Rattle.std.specs.Prelude.{◌≡◌, ◌+◌, ◌<◌, ◌≤◌, ◌^◌};
+ghost use Rattle.mem_model.specs.Child.{child_result};
+ghost use Rattle.mem_model.specs.MeasuredTree.{IsAfterCall};
+
+use crate::row::Row;
+use crate::rows::MOST_NODES;
+use crate::solo_tree::SoloTree;
+use mem_num::{AllocId, ChildRefused, Closed};
+
+impl SoloTree {
+    /// Makes a child of an allocator, with a reservation, which is requested at the parent, and a limit, in bytes. After
+    /// `BaseAllocator.newChildAllocator`. Takes no memory.
+    pub fn child(
+        &mut self,
+        parent: AllocId,
+        reservation: u64,
+        limit: u64,
+    ) -> Result<AllocId, ChildRefused>
+        requires reservation { reservation ≤ 2 ^ 40 }
+        requires limit { limit < 2 ^ 63 }
+        requires numbers { self.old.state.next + 1 < 2 ^ 32 }
+        ensures answer { result ≡ (child_result self.old.state parent reservation limit).answer }
+        ensures after { IsAfterCall self.old (child_result self.old.state parent reservation limit) self.new }
+    {
+        if reservation > limit {
+            return Err(ChildRefused::ReserveAboveLimit { reservation, limit });
+        }
+        if !self.is_open(parent) {
+            return Err(ChildRefused::Closed(Closed {
+                node: parent,
+                uses: 0,
+            }));
+        }
+        let number = AllocId(self.next);
+        self.next += 1;
+        if number.0 >= MOST_NODES {
+            return Err(ChildRefused::Nodes {
+                next: number.0.into(),
+            });
+        }
+        if let Err(full) = self.rows.request(parent, reservation) {
+            return Err(ChildRefused::Full(full));
+        }
+        self.rows
+            .put(number, Row::child(parent, reservation, limit));
+        self.rows.add_use(parent);
+        Ok(number)
+    }
+}
