@@ -1,10 +1,11 @@
 -- The lemmas of this crate.
-mod WordLemmas
 mod TextLemmas
+mod WordLemmas
 mod LineLemmas
 mod SaysLemmas
 mod ReadingLemmas
-mod RootLemmas
-mod NamesLemmas
+mod BufferLemmas
+mod NumberLemmas
+mod BoundLemmas
 mod TraceLemmas
 mod RunLemmas

@@ -1,6 +1,6 @@
 -- Names and numbers are text, no number is above the bound, and the first byte that is no blank skips a line or not.
-use Rattle.std.proofs.Common.{◌≡◌, sym, refl, ℕ, List, [], ◌∷◌, length, ◌<◌, ◌^◌, true, false, not, ltb, leb, eqb, None, Err, rules, arith, tests, inl, inr, IsTrue, filter, ◌&&◌}
-use Rattle.std.specs.List.{list_all, find, slice_split, onto_first}
+use Rattle.std.proofs.Common.{◌≡◌, sym, refl, ℕ, List, [], ◌∷◌, length, ◌<◌, ◌^◌, ◌+◌, Bool, true, false, not, ltb, leb, eqb, None, Some, Err, rules, arith, tests, inl, inr, IsTrue, filter, take, drop, ap, ◌&&◌}
+use Rattle.std.specs.List.{list_all, find, slice_split, onto_first, position}
 use Rattle.std.specs.Option.{option_map_or}
 use Rattle.std.specs.Char.{is_ascii_digit}
 use Rattle.std.specs.Str.{IsUtf8}
@@ -13,7 +13,8 @@ use Rattle.std.proofs.lemmas.Str.{IsUtf8-from_ascii}
 use Rattle.std.proofs.lemmas.Str.Parse.{IsNumeralModel, numerals_by_value, parse_digits}
 use Rattle.std.proofs.lemmas.List.Sums.{AllPass-from_list_all}
 use Rattle.std.proofs.lemmas.Str.Ascii.{IsAscii-from_all}
-use Rattle.script.specs.Words.{is_number, number_of, is_name, is_name_byte, is_blank, is_skipped, words_of}
+use Rattle.script.specs.Words.{is_number, number_of, is_name, is_name_byte, is_blank, is_skipped, words_of, words_with}
+use Rattle.script.proofs.TextLemmas.{split-at, split-none}
 
 -- each byte is a digit
 abbrev pub AreDigits : List ℕ → Type 0
@@ -75,3 +76,16 @@ is_skipped-find (byte ∷ line) = elim (cases_Bool (is_blank byte)) [
   | inl blank ↦ rw blank (is_skipped-find line)
   | inr word ↦ rw word (sym (is_skipped-onto_first byte (slice_split is_blank line)))
 ]
+
+-- a part with a byte is a word
+abbrev nonempty : List ℕ → Bool
+nonempty word = ltb 0 (length word)
+
+-- the first blank ends the first part
+pub words-at : (line : List ℕ) (end : ℕ) → Some end ≡ position is_blank line
+    → words_of line ≡ words_with (take end line) (words_of (drop (end + 1) line))
+words-at line end found = ap (filter nonempty) (split-at is_blank line end found)
+
+-- a line without blanks is one part
+pub words-none : (line : List ℕ) → None ≡ position is_blank line → words_of line ≡ words_with line []
+words-none line missed = ap (filter nonempty) (split-none is_blank line missed)

@@ -1,20 +1,35 @@
 -- What a line says, and which lines of text are which script.
-use Rattle.std.specs.Prelude.{◌≡◌, ℕ, ◌≤◌, Bool, true, false, ◌&&◌, List, [], ◌∷◌, length, map, drop, count_by, if◌then◌else◌, Option, Some, None, codes, option_map, All}
+use Rattle.std.specs.Prelude.{◌≡◌, ℕ, ◌-◌, ◌^◌, ◌<◌, ◌≤◌, Bool, true, false, ◌&&◌, List, [], ◌∷◌, ◌++◌, length, map, take, drop, count_by, if◌then◌else◌, Option, Some, None, codes, option_map, All}
 use Rattle.std.specs.List.{flat_map}
 use Rattle.std.specs.Str.{bytes_eq}
-use Rattle.script.specs.Words.{is_name, number_of, commands_of}
+use Rattle.script.specs.Words.{is_name, name_of, number_of, reservation_of, commands_of}
 use Rattle.script.specs.declared.form.Form.{Form}
 use Rattle.script.specs.declared.form.Form.TheVariants.{Trace, Drive}
 use Rattle.script.specs.declared.line.Line.{Line}
-use Rattle.script.specs.declared.line.Line.TheVariants.{Root, Buffer, Tree}
+use Rattle.script.specs.declared.line.Line.TheVariants.{Root, Child, Buffer, Release, Close, Headroom, Tree}
 
--- what the words of a line say, if they say a line: `tree`, `root LIMIT`, `buffer NAME ALLOC SIZE`
+-- a line of two names and two numbers, where both are numbers
+abbrev pub child_of : List ℕ → List ℕ → Option ℕ → Option ℕ → Option Line
+child_of name parent (Some reservation) (Some limit) = Some (Child name parent reservation limit)
+child_of name parent reservation limit = None
+
+-- what the words of a line say, if they say a line: `tree`; `root LIMIT`, `release NAME`, `close ALLOC`, `headroom ALLOC`;
+-- `buffer NAME ALLOC SIZE`; `child NAME PARENT RES LIMIT`
 unfoldable pub line_of : List (List ℕ) → Option Line
 line_of (word ∷ []) = if bytes_eq word (codes "tree") then Some Tree else None
-line_of (word ∷ limit ∷ []) = if bytes_eq word (codes "root") then option_map Root (number_of limit) else None
+line_of (word ∷ other ∷ []) =
+    if bytes_eq word (codes "root") then option_map Root (number_of other)
+    else if bytes_eq word (codes "release") then option_map Release (name_of other)
+    else if bytes_eq word (codes "close") then option_map Close (name_of other)
+    else if bytes_eq word (codes "headroom") then option_map Headroom (name_of other)
+    else None
 line_of (word ∷ name ∷ at ∷ size ∷ []) =
     if bytes_eq word (codes "buffer") && is_name name && is_name at
     then option_map (Buffer name at) (number_of size)
+    else None
+line_of (word ∷ name ∷ parent ∷ reservation ∷ limit ∷ []) =
+    if bytes_eq word (codes "child") && is_name name && is_name parent
+    then child_of name parent (reservation_of reservation) (number_of limit)
     else None
 line_of words = None
 
@@ -31,6 +46,7 @@ is_tree line = false
 -- the lines that may stand in a script of this form
 abbrev pub stands_in : Form → Line → Bool
 stands_in Trace line = true
+stands_in Drive (Headroom at) = false
 stands_in Drive Tree = false
 stands_in Drive line = true
 
@@ -38,6 +54,12 @@ stands_in Drive line = true
 abbrev pub limit_of : List Line → ℕ
 limit_of (Root limit ∷ more) = limit
 limit_of lines = 9223372036854775807
+
+-- the bounds of a line's numbers: a reservation is at most 2 ^ 40, a limit below 2 ^ 63
+abbrev pub HasBounds : Line → Type 0
+HasBounds (Root limit) = limit < 2 ^ 63
+HasBounds (Child name parent reservation limit) = (reservation ≤ 2 ^ 40) × (limit < 2 ^ 63)
+HasBounds line = Unit {0}
 
 -- a script: the root's limit, and its sections
 pub record ScriptParts : Type 0 where
@@ -66,7 +88,17 @@ pub record IsScript (form : Form) (text : List (List ℕ)) (script : ScriptParts
 abbrev pub IsUnreadable : Form → List (List ℕ) → Type 0
 IsUnreadable form text = (script : ScriptParts) → IsScript form text script → ⊥
 
--- a text is at most one script
-abbrev pub TextsHaveOneReading : Type 0
-TextsHaveOneReading =
-    (form : Form) (text : List (List ℕ)) (a b : ScriptParts) → IsScript form text a → IsScript form text b → a ≡ b
+-- the line of this number, from 1 on, is the first unreadable one of these lines of text: those before it say some lines of a
+-- script, and those up to it say none, whatever follows them
+pub record IsFirstUnreadable (form : Form) (text : List (List ℕ)) (number : ℕ) : Type 0 where
+  pub from_one : 1 ≤ number
+  pub within : number ≤ length text
+  pub before : (said : List Line) × Says form (take (number - 1) text) said
+  pub ends : (more : List (List ℕ)) (said : List Line) → Says form (take number text ++ more) said → ⊥
+
+-- a text has at most one reading: it is one script, or has one first unreadable line and is none
+pub record TextsHaveOneReading : Type 0 where
+  pub script : (form : Form) (text : List (List ℕ)) (a b : ScriptParts) → IsScript form text a → IsScript form text b → a ≡ b
+  pub line : (form : Form) (text : List (List ℕ)) (m n : ℕ)
+      → IsFirstUnreadable form text m → IsFirstUnreadable form text n → m ≡ n
+  pub apart : (form : Form) (text : List (List ℕ)) (n : ℕ) → IsFirstUnreadable form text n → IsUnreadable form text

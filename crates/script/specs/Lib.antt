@@ -2,6 +2,8 @@
 pub mod Words
 pub mod Grammar
 pub mod Reading
-pub mod RootTree
+pub mod Answers
+pub mod Bound
+pub mod Buffers
 pub mod Trace
 pub mod Shown

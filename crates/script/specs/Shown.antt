@@ -1,13 +1,38 @@
 -- A trace that is being run shows what it has come to.
-use Rattle.std.specs.Prelude.{◌≡◌, ℕ, List, map, string_bytes}
+use Rattle.std.specs.Prelude.{◌≡◌, ℕ, ◌+◌, ◌<◌, ◌≤◌, ◌^◌, List, ◌++◌}
+use Rattle.mem_model.specs.MeasuredTree.{peak_at}
+use Rattle.mem_model.specs.PeakSample.{PeakSample, peak_of}
+use Rattle.mem_model.specs.TreeState.{TreeState}
 use Rattle.script.specs.declared.trace.Trace.{Trace}
-use Rattle.script.specs.RootTree.{Shows}
-use Rattle.script.specs.Trace.{TraceState, LineResult}
+use Rattle.script.specs.declared.line.Line.{Line}
+use Rattle.script.specs.Trace.{TraceState, LineResult, line_result}
 
+-- what a running trace shows, beside the moments at which its peaks were measured
+abbrev pub state_of : Trace → List PeakSample → TraceState
+state_of trace samples =
+    record { tree = trace.tree.state; samples = samples; names = trace.names.bindings; buffers = trace.buffers }
+
+-- the running trace shows this state, and its peaks are those of the samples
 pub record IsAt (trace : Trace) (state : TraceState) : Type 0 where
-  pub tree : Shows trace.tree state.tree state.samples
-  pub buffers : map string_bytes trace.buffers.keys ≡ state.buffers
+  pub shown : state ≡ state_of trace state.samples
+  pub peaks : (n : ℕ) → peak_at trace.tree n ≡ peak_of state.samples n
 
--- from wherever a trace was, it printed the text and went to the state that a line has
-abbrev pub Prints : Trace → Trace → List ℕ → (TraceState → LineResult) → Type 0
-Prints old new text line = (state : TraceState) → IsAt old state → (text ≡ (line state).text) × IsAt new (line state).state
+-- from wherever a trace was, what was printed before grew by the text of a line, and the trace went to the state that the line
+-- leaves
+abbrev pub Prints : Trace → Trace → List ℕ → List ℕ → (TraceState → LineResult) → Type 0
+Prints old new before after line = (state : TraceState) → IsAt old state
+    → (after ≡ before ++ (line state).text) × IsAt new (line state).state
+
+-- the same of a line as it was read
+abbrev pub PrintsLine : Trace → Trace → List ℕ → List ℕ → Line → Type 0
+PrintsLine old new before after line = Prints old new before after (λ state. line_result state line)
+
+-- 32 bits hold the numbers that so many more lines may draw
+pub record HasNumbers (tree : TreeState) (lines : ℕ) : Type 0 where
+  pub chunks : tree.drawn + lines < 2 ^ 32
+  pub allocators : tree.next + lines < 2 ^ 32
+
+-- so many lines drew at most one number each
+pub record DrawsNumbers (old new : TreeState) (lines : ℕ) : Type 0 where
+  pub chunks : new.drawn ≤ old.drawn + lines
+  pub allocators : new.next ≤ old.next + lines

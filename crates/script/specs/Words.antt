@@ -12,6 +12,10 @@ is_blank byte = (byte == 32) || (byte == 9)
 abbrev pub words_of : List ℕ → List (List ℕ)
 words_of line = filter (λ word. nat_lt 0 (length word)) (slice_split is_blank line)
 
+-- the words of a line that begins with this part, before one with these words: an empty part is no word
+abbrev pub words_with : List ℕ → List (List ℕ) → List (List ℕ)
+words_with part words = if nat_lt 0 (length part) then part ∷ words else words
+
 -- a letter, a digit, '_', '-' or '.'
 abbrev pub is_name_byte : ℕ → Bool
 is_name_byte byte = is_ascii_alphanumeric byte || (byte == 95) || (byte == 45) || (byte == 46)
@@ -25,9 +29,18 @@ unfoldable pub is_number : List ℕ → Bool
 is_number word =
     nat_lt 0 (length word) && list_all is_ascii_digit word && nat_le (digits_value 10 word) 9223372036854775807
 
+-- the name that a word is
+abbrev pub name_of : List ℕ → Option (List ℕ)
+name_of word = if is_name word then Some word else None
+
 -- the value of a number
 abbrev pub number_of : List ℕ → Option ℕ
 number_of word = if is_number word then Some (digits_value 10 word) else None
+
+-- the value of a number of at most 2 ^ 40
+abbrev pub reservation_of : List ℕ → Option ℕ
+reservation_of word =
+    if is_number word && nat_le (digits_value 10 word) 1099511627776 then Some (digits_value 10 word) else None
 
 -- a line is skipped if it has no words, or its first word begins with '#'
 abbrev pub is_skipped : List (List ℕ) → Bool

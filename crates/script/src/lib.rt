@@ -1,13 +1,14 @@
 //! The script language: bytes are read as a script, a root's limit and sections of lines, and a script is run as a trace.
 #![tactic(auto)]
 
+mod answer;
+mod buffer;
 mod form;
 mod line;
 mod name;
 mod read;
 mod reading;
 mod refused;
-mod root_tree;
 mod run;
 mod script;
 mod section;

@@ -1,47 +1,73 @@
 //! The lines of a script.
-ghost use Rattle.std.specs.Prelude.{◌≡◌, [], ◌∷◌, map, IfOk};
+ghost use Rattle.std.specs.Prelude.{◌≡◌, [], ◌∷◌};
 ghost use Rattle.std.specs.Str.{bytes_eq};
 ghost use Rattle.script.specs.Words.{words_of};
 ghost use Rattle.script.specs.Grammar.{line_of};
 
 use crate::name::Name;
-use crate::word::{first_words, is_name, number_of};
-use std::alloc::{AllocError, Global};
+use crate::word::{first_word, number_of, reservation_of};
 
 /// A line of a script, by what it asks for, with its words.
 #[derive(Debug, Drop)]
-pub enum Line {
+pub enum Line<'a> {
     /// `root LIMIT`: the root may hold that many bytes.
-    Root { limit: u64 },
+    Root {
+        limit: u64,
+    },
+    /// `child NAME PARENT RES LIMIT`: an allocator below the one that `parent` names, with a reservation and a limit in bytes.
+    Child {
+        name: Name<'a>,
+        parent: Name<'a>,
+        reservation: u64,
+        limit: u64,
+    },
     /// `buffer NAME ALLOC SIZE`: a buffer of that many bytes, at the allocator that `at` names.
-    Buffer { name: Name, at: Name, size: u64 },
+    Buffer {
+        name: Name<'a>,
+        at: Name<'a>,
+        size: u64,
+    },
+    /// `release NAME`: the buffer of that name is given back.
+    Release {
+        name: Name<'a>,
+    },
+    /// `close ALLOC`: the allocator that `at` names is closed.
+    Close {
+        at: Name<'a>,
+    },
+    /// `headroom ALLOC`: the headroom of the allocator that `at` names is shown.
+    Headroom {
+        at: Name<'a>,
+    },
     /// `tree`: the tree of allocators is shown.
     Tree,
 }
 
-/// The line that a line of text says.
-pub(crate) fn line_in(alloc: Global, text: &[u8]) -> Result<Option<Line>, AllocError>
-    ensures { IfOk result (λ line. line ≡ line_of (words_of text.now)) }
+/// The line that a line of text says. It takes no memory.
+pub(crate) fn line_in(text: &[u8]) -> Option<Line<'_>>
+    ensures { result ≡ line_of (words_of text.now) }
 {
-    let words = first_words(alloc, text)?;
-    line_of(alloc, &words)
-}
-
-#[tactic(auto, unfolding(crate::specs::Grammar::line_of))]
-fn line_of(alloc: Global, words: &[&[u8]]) -> Result<Option<Line>, AllocError>
-    ensures { IfOk result (λ line. line ≡ line_of (map (λ word. word.now) words.now)) }
-{
-    match words {
-        [word] => Ok(alone(word)),
-        [word, limit] => Ok(with_one(word, limit)),
-        [word, name, at, size] => with_three(alloc, word, name, at, size),
-        _ => Ok(None),
+    let (word, rest) = first_word(text)?;
+    let Some((first, rest)) = first_word(rest) else {
+        return alone(word);
+    };
+    let Some((second, rest)) = first_word(rest) else {
+        return with_one(word, first);
+    };
+    // A line of three words says nothing.
+    let (third, rest) = first_word(rest)?;
+    let Some((fourth, rest)) = first_word(rest) else {
+        return with_three(word, first, second, third);
+    };
+    match first_word(rest) {
+        Some(_) => None,
+        None => with_four(word, first, second, third, fourth),
     }
 }
 
 // The line of one word.
 #[tactic(auto, unfolding(crate::specs::Grammar::line_of))]
-fn alone(word: &[u8]) -> Option<Line>
+fn alone<'a>(word: &'a [u8]) -> Option<Line<'a>>
     ensures { result ≡ line_of (word.now ∷ []) }
 {
     if is_word(word, "tree") {
@@ -53,37 +79,64 @@ fn alone(word: &[u8]) -> Option<Line>
 
 // The line of a word and one more.
 #[tactic(auto, unfolding(crate::specs::Grammar::line_of))]
-fn with_one(word: &[u8], limit: &[u8]) -> Option<Line>
-    ensures { result ≡ line_of (word.now ∷ limit.now ∷ []) }
+fn with_one<'a>(word: &'a [u8], other: &'a [u8]) -> Option<Line<'a>>
+    ensures { result ≡ line_of (word.now ∷ other.now ∷ []) }
 {
-    if !is_word(word, "root") {
-        return None;
+    if is_word(word, "root") {
+        let limit = number_of(other)?;
+        return Some(Line::Root { limit });
     }
-    let limit = number_of(limit)?;
-    Some(Line::Root { limit })
+    let at = Name::new(other)?;
+    if is_word(word, "release") {
+        Some(Line::Release { name: at })
+    } else if is_word(word, "close") {
+        Some(Line::Close { at })
+    } else if is_word(word, "headroom") {
+        Some(Line::Headroom { at })
+    } else {
+        None
+    }
 }
 
 // The line of a word and three more.
 #[tactic(auto, unfolding(crate::specs::Grammar::line_of))]
-fn with_three(
-    alloc: Global,
-    word: &[u8],
-    name: &[u8],
-    at: &[u8],
-    size: &[u8],
-) -> Result<Option<Line>, AllocError>
-    ensures { IfOk result (λ line.
-        line ≡ line_of (word.now ∷ name.now ∷ at.now ∷ size.now ∷ [])) }
+fn with_three<'a>(word: &'a [u8], name: &'a [u8], at: &'a [u8], size: &'a [u8]) -> Option<Line<'a>>
+    ensures { result ≡ line_of (word.now ∷ name.now ∷ at.now ∷ size.now ∷ []) }
 {
-    if !is_word(word, "buffer") || !is_name(name) || !is_name(at) {
-        return Ok(None);
+    if !is_word(word, "buffer") {
+        return None;
     }
-    let Some(size) = number_of(size) else {
-        return Ok(None);
-    };
-    let name = Name::new(alloc, name)?;
-    let at = Name::new(alloc, at)?;
-    Ok(Some(Line::Buffer { name, at, size }))
+    let name = Name::new(name)?;
+    let at = Name::new(at)?;
+    let size = number_of(size)?;
+    Some(Line::Buffer { name, at, size })
+}
+
+// The line of a word and four more.
+#[tactic(auto, unfolding(crate::specs::Grammar::line_of))]
+fn with_four<'a>(
+    word: &'a [u8],
+    name: &'a [u8],
+    parent: &'a [u8],
+    reservation: &'a [u8],
+    limit: &'a [u8],
+) -> Option<Line<'a>>
+    ensures { result
+        ≡ line_of (word.now ∷ name.now ∷ parent.now ∷ reservation.now ∷ limit.now ∷ []) }
+{
+    if !is_word(word, "child") {
+        return None;
+    }
+    let name = Name::new(name)?;
+    let parent = Name::new(parent)?;
+    let reservation = reservation_of(reservation)?;
+    let limit = number_of(limit)?;
+    Some(Line::Child {
+        name,
+        parent,
+        reservation,
+        limit,
+    })
 }
 
 fn is_word(word: &[u8], text: &str) -> bool

@@ -1,10 +1,9 @@
 //! A script that is being read, line after line.
-ghost use Rattle.std.specs.Prelude.{◌≡◌, ◌↔◌, [], ◌∷◌, ◌++◌, IsTrue, OnOk, IfOk};
+ghost use Rattle.std.specs.Prelude.{◌≡◌, ◌↔◌, [], ◌∷◌, ◌++◌, true, false, IsTrue, IfOk};
 ghost use Rattle.script.specs.Reading.{MayFollow, GoesOn, EndsHere, script_of};
 
 use crate::form::Form;
 use crate::line::{Line, line_in};
-use crate::refused::ScriptRefused;
 use crate::script::Script;
 use crate::word::is_skipped;
 use std::alloc::{AllocError, Global};
@@ -16,12 +15,12 @@ const MAX_TREES: usize = 1_000;
 
 /// The lines that were read so far, seen as the list of them.
 #[derive(Drop)]
-pub(crate) struct Reading {
-    lines: Vec<Line>,
+pub(crate) struct Reading<'a> {
+    lines: Vec<Line<'a>>,
     trees: usize,
 }
 
-impl Model for Reading {
+impl<'a> Model for Reading<'a> {
     ghost use Rattle.std.specs.Prelude.{◌≡◌, List, count_by};
     ghost use Rattle.script.specs.declared.line.Line.{Line as AnyLine};
     ghost use Rattle.script.specs.Grammar.{is_tree};
@@ -33,8 +32,8 @@ impl Model for Reading {
     ghost invariant = { λ reading. reading.trees ≡ count_by is_tree reading.lines.items };
 }
 
-impl Reading {
-    pub fn new(alloc: Global) -> Reading
+impl<'a> Reading<'a> {
+    pub fn new(alloc: Global) -> Reading<'a>
         ensures { result ≡ [] }
     {
         Reading {
@@ -43,34 +42,34 @@ impl Reading {
         }
     }
 
-    /// Reads one more line of text.
-    pub fn take(&mut self, alloc: Global, form: Form, text: &[u8]) -> Result<(), ScriptRefused>
-        ensures ok { OnOk result (GoesOn form text.now self.old self.new) }
-        ensures bad { result ≡ Err ScriptRefused.Bad → EndsHere form text.now self.old }
+    /// Reads one more line of text, and answers whether it can stand there.
+    pub fn take(&mut self, form: Form, text: &'a [u8]) -> Result<bool, AllocError>
+        ensures goes_on { result ≡ Ok true → GoesOn form text.now self.old self.new }
+        ensures ends_here { result ≡ Ok false → EndsHere form text.now self.old }
     {
         if is_skipped(text) {
-            return Ok(());
+            return Ok(true);
         }
-        match line_in(alloc, text)? {
+        match line_in(text) {
             Some(line) => self.push(form, line),
-            None => Err(ScriptRefused::Bad),
+            None => Ok(false),
         }
     }
 
-    fn push(&mut self, form: Form, line: Line) -> Result<(), ScriptRefused>
-        ensures pushed { OnOk result (self.new ≡ self.old ++ line ∷ []) }
-        ensures follows { OnOk result (MayFollow form self.old line) }
-        ensures bad { result ≡ Err ScriptRefused.Bad → MayFollow form self.old line → ⊥ }
+    fn push(&mut self, form: Form, line: Line<'a>) -> Result<bool, AllocError>
+        ensures pushed { result ≡ Ok true → self.new ≡ self.old ++ line.entry ∷ [] }
+        ensures follows { result ≡ Ok true → MayFollow form self.old line.entry }
+        ensures misplaced { result ≡ Ok false → MayFollow form self.old line.entry → ⊥ }
     {
         if !self.may_follow(form, &line) {
-            return Err(ScriptRefused::Bad);
+            return Ok(false);
         }
         let is_tree = matches!(line, Line::Tree);
         self.lines.push(line)?;
         if is_tree {
             self.trees += 1;
         }
-        Ok(())
+        Ok(true)
     }
 
     fn may_follow(&self, form: Form, line: &Line) -> bool
@@ -79,14 +78,18 @@ impl Reading {
         self.lines.len() < MAX_LINES
             && match line {
                 Line::Root { .. } => self.lines.is_empty(),
-                Line::Buffer { .. } => true,
+                Line::Headroom { .. } => matches!(form, Form::Trace),
                 Line::Tree => matches!(form, Form::Trace) && self.trees < MAX_TREES,
+                Line::Child { .. }
+                | Line::Buffer { .. }
+                | Line::Release { .. }
+                | Line::Close { .. } => true,
             }
     }
 
     /// The script of the lines that were read.
-    pub fn finish(self, alloc: Global) -> Result<Script, AllocError>
-        ensures { IfOk result (λ script. script ≡ script_of self) }
+    pub fn finish(self, alloc: Global) -> Result<Script<'a>, AllocError>
+        ensures { IfOk result (λ script. script ≡ script_of self.entry) }
     {
         let Reading { lines, trees: _ } = self;
         Script::new(alloc, lines)

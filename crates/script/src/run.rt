@@ -1,9 +1,9 @@
 //! A script that was read is run as a trace.
-ghost use Rattle.std.specs.Prelude.{◌≡◌, ◌++◌, ◌+◌, ◌≤◌, ◌<◌, ◌^◌, ℕ, length, OnOk};
+ghost use Rattle.std.specs.Prelude.{◌≡◌, ◌++◌, ◌≤◌, ◌<◌, ◌^◌, ℕ, All, length, OnOk};
 ghost use Rattle.std.specs.Str.Lines.{lines};
-ghost use Rattle.script.specs.Grammar.{ScriptParts, IsScript, IsUnreadable, lines_of};
+ghost use Rattle.script.specs.Grammar.{ScriptParts, IsScript, IsFirstUnreadable, HasBounds, lines_of};
 ghost use Rattle.script.specs.Trace.{TraceState, opened_trace, text_of, state_after, trace_text};
-ghost use Rattle.script.specs.Shown.{IsAt};
+ghost use Rattle.script.specs.Shown.{IsAt, HasNumbers, DrawsNumbers};
 
 use crate::form::Form;
 use crate::line::Line;
@@ -18,8 +18,10 @@ pub fn run_trace(alloc: Global, bytes: &[u8], out: &mut Vec<u8>) -> Result<(), S
     ensures text { OnOk result ((script : ScriptParts) × IsScript Form.Trace (lines bytes.now) script
         × (out.new.items ≡ out.old.items ++ trace_text script)) }
 
-    ensures bad { result ≡ Err ScriptRefused.Bad → IsUnreadable Form.Trace (lines bytes.now) }
-    ensures unread { result ≡ Err ScriptRefused.Bad → out.new.items ≡ out.old.items }
+    ensures bad { (line : ℕ) → result ≡ Err (ScriptRefused.Bad line)
+        → IsFirstUnreadable Form.Trace (lines bytes.now) line }
+    ensures unread { (line : ℕ) → result ≡ Err (ScriptRefused.Bad line)
+        → out.new.items ≡ out.old.items }
 {
     let script = read_script(alloc, bytes, Form::Trace)?;
     run_script(alloc, &script, out)?;
@@ -27,30 +29,38 @@ pub fn run_trace(alloc: Global, bytes: &[u8], out: &mut Vec<u8>) -> Result<(), S
 }
 
 fn run_script(alloc: Global, script: &Script, out: &mut Vec<u8>) -> Result<(), AllocError>
-    requires { length (lines_of script.now) ≤ 1000000 }
+    requires lines { length (lines_of script.now) ≤ 1000000 }
+    requires limit { script.now.limit < 2 ^ 63 }
+    requires bounds { All HasBounds (lines_of script.now) }
     ensures { OnOk result (out.new.items ≡ out.old.items ++ trace_text script.now) }
 {
-    let mut trace = Trace::new(alloc, script.limit());
+    let mut trace = Trace::open(alloc, script.limit())?;
     for section in script.sections() {
         run_lines(alloc, &mut trace, section.lines(), out)?;
     }
     Ok(())
 }
 
-// Runs some lines, and appends what they print.
-fn run_lines(
+// Runs some lines, and appends what they print. One text serves all of them.
+fn run_lines<'a>(
     alloc: Global,
-    trace: &mut Trace,
-    lines: &[Line],
+    trace: &mut Trace<'a>,
+    lines: &[Line<'a>],
     out: &mut Vec<u8>,
 ) -> Result<(), AllocError>
-    requires { trace.old.tree.drawn + length lines.now < 2 ^ 32 }
-    ensures text { OnOk result ((state : TraceState) → IsAt trace.old state → out.new.items ≡ out.old.items ++ text_of state lines.now) }
-    ensures after { OnOk result ((state : TraceState) → IsAt trace.old state → IsAt trace.new (state_after state lines.now)) }
-    ensures drawn { OnOk result (trace.new.tree.drawn ≤ trace.old.tree.drawn + length lines.now) }
+    requires bounds { All HasBounds lines.now }
+    requires numbers { HasNumbers trace.old.tree.state (length lines.now) }
+    ensures text { OnOk result ((state : TraceState) → IsAt trace.old state
+        → out.new.items ≡ out.old.items ++ text_of state lines.now) }
+    ensures after { OnOk result ((state : TraceState) → IsAt trace.old state
+        → IsAt trace.new (state_after state lines.now)) }
+    ensures draws { OnOk result
+        (DrawsNumbers trace.old.tree.state trace.new.tree.state (length lines.now)) }
 {
+    let mut text = String::new(alloc);
     for line in lines {
-        let text = trace.run(alloc, line)?;
+        text.clear();
+        trace.run(alloc, line, &mut text)?;
         out.extend_from_slice(text.as_bytes())?;
     }
     Ok(())

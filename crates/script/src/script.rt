@@ -9,14 +9,14 @@ use crate::word::MAX_NUMBER;
 use std::alloc::{AllocError, Global};
 use std::marker::Model;
 
-/// A script, seen as the root's limit and the list of its sections.
+/// A script, seen as the root's limit and the list of its sections. Its names stand in the bytes that it was read from.
 #[derive(Debug, Drop)]
-pub struct Script {
+pub struct Script<'a> {
     limit: u64,
-    sections: Vec<Section>,
+    sections: Vec<Section<'a>>,
 }
 
-impl Model for Script {
+impl<'a> Model for Script<'a> {
     ghost use Rattle.script.specs.Grammar.{ScriptParts};
 
     ghost Value = { ScriptParts };
@@ -24,10 +24,10 @@ impl Model for Script {
     ghost view = { λ script. record { limit = script.limit; sections = script.sections.items } };
 }
 
-impl Script {
+impl<'a> Script<'a> {
     /// The script of these lines: one section.
-    pub(crate) fn new(alloc: Global, lines: Vec<Line>) -> Result<Script, AllocError>
-        ensures { IfOk result (λ script. script ≡ script_of lines.items) }
+    pub(crate) fn new(alloc: Global, lines: Vec<Line<'a>>) -> Result<Script<'a>, AllocError>
+        ensures { IfOk result (λ script. script ≡ script_of lines.entry.items) }
     {
         let limit = limit_of(&lines);
         let mut sections = Vec::new(alloc);
@@ -43,7 +43,7 @@ impl Script {
     }
 
     /// The sections, in order. It takes no memory.
-    pub fn sections(&self) -> &[Section]
+    pub fn sections(&self) -> &[Section<'a>]
         ensures { result.now ≡ self.now.sections }
     {
         &self.sections
@@ -55,7 +55,10 @@ fn limit_of(lines: &[Line]) -> u64
     ensures { result ≡ limit_of lines.now }
 {
     match lines {
-        [Line::Root { limit }, ..] => *limit,
-        _ => MAX_NUMBER,
+        [first, ..] => match first {
+            Line::Root { limit } => *limit,
+            _ => MAX_NUMBER,
+        },
+        [] => MAX_NUMBER,
     }
 }

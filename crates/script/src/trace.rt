@@ -1,158 +1,71 @@
 //! Running a trace: one line after another, on a tree of one thread.
-ghost use Rattle.std.specs.Prelude.{◌≡◌, ◌+◌, ◌^◌, ◌<◌, ◌≤◌, List, ℕ, IfOk, OnOk, string_bytes, codes, map, [], ◌∷◌, ◌++◌, false};
-ghost use Rattle.std.specs.List.{list_any};
-ghost use Rattle.std.specs.Str.{bytes_eq};
-ghost use Rattle.script.specs.Trace.{buffer_text, node_text};
+ghost use Rattle.std.specs.Prelude.{◌≡◌, OnOk, IfOk, string_bytes};
 
+mod child;
+mod grant;
+mod look;
+mod release;
+
+use crate::buffer::Buffers;
 use crate::line::Line;
-use crate::name::Name;
-use crate::root_tree::RootTree;
-use indexmap::IndexSet;
-use mem_model::TreeNode;
-use mem_num::{AllocId, BufferRefused, Ref};
+use alloc_tree::{Names, SoloTree};
 use std::alloc::{AllocError, Global};
 
-/// What a trace has come to: its tree, and the names that buffers have.
+/// What a trace has come to: its tree, and the names of its allocators and of its buffers.
 #[derive(Drop)]
-pub(crate) struct Trace {
-    tree: RootTree,
-    buffers: IndexSet<String>,
+pub(crate) struct Trace<'a> {
+    pub(crate) tree: SoloTree,
+    pub(crate) names: Names,
+    pub(crate) buffers: Buffers<'a>,
 }
 
-impl Trace {
-    ghost use Rattle.script.specs.Trace.{opened_trace, line_result};
-    ghost use Rattle.mem_model.specs.TreeState.{root_node};
-    ghost use Rattle.script.specs.Shown.{IsAt, Prints};
+impl<'a> Trace<'a> {
+    ghost use Rattle.std.specs.Prelude.{◌<◌, ◌^◌};
+    ghost use Rattle.script.specs.Grammar.{HasBounds};
+    ghost use Rattle.script.specs.Trace.{opened_trace};
+    ghost use Rattle.script.specs.Shown.{IsAt, PrintsLine, HasNumbers, DrawsNumbers};
 
     /// A trace before its first line.
-    pub(crate) fn new(alloc: Global, limit: u64) -> Trace
-        ensures opened { IsAt result (opened_trace limit) }
-        ensures drawn { result.tree.drawn ≡ 0 }
+    pub(crate) fn open(alloc: Global, limit: u64) -> Result<Trace<'a>, AllocError>
+        requires limit { limit < 2 ^ 63 }
+        ensures opened { IfOk result (λ trace. IsAt trace (opened_trace limit)) }
     {
-        Trace {
-            tree: RootTree::new(limit),
-            buffers: IndexSet::new(alloc),
-        }
+        let Ok(tree) = SoloTree::open(alloc, limit) else {
+            return Err(AllocError);
+        };
+        Ok(Trace {
+            tree,
+            names: Names::new(alloc),
+            buffers: Buffers::new(alloc),
+        })
     }
 
-    /// Runs a line, and gives what it prints.
-    pub(crate) fn run(&mut self, alloc: Global, line: &Line) -> Result<String, AllocError>
-        requires { self.old.tree.drawn + 1 < 2 ^ 32 }
-        ensures prints { IfOk result (λ text. Prints self.old self.new (string_bytes text) (λ state. line_result state line.now)) }
-        ensures drawn { OnOk result (self.new.tree.drawn ≤ self.old.tree.drawn + 1) }
-    {
-        match line {
-            Line::Root { .. } => Ok(String::new(alloc)),
-            Line::Buffer { name, at, size } => self.buffer(alloc, name, at, *size),
-            Line::Tree => self.show(alloc),
-        }
-    }
-
-    // Asks for a buffer: its name is tested first, then that of the allocator.
-    fn buffer(
+    /// Runs a line, and writes what it prints.
+    pub(crate) fn run(
         &mut self,
         alloc: Global,
-        name: &Name,
-        at: &Name,
-        size: u64,
-    ) -> Result<String, AllocError>
-        requires { self.old.tree.drawn + 1 < 2 ^ 32 }
-        ensures prints { IfOk result (λ text. Prints self.old self.new (string_bytes text)
-            (λ state. line_result state (Line.Buffer name.now at.now size))) }
-        ensures drawn { OnOk result (self.new.tree.drawn ≤ self.old.tree.drawn + 1) }
+        line: &Line<'a>,
+        text: &mut String,
+    ) -> Result<(), AllocError>
+        requires bounds { HasBounds line.now }
+        requires numbers { HasNumbers self.old.tree.state 1 }
+        ensures prints { OnOk result
+            (PrintsLine self.old self.new (string_bytes text.old) (string_bytes text.new) line.now) }
+        ensures draws { OnOk result (DrawsNumbers self.old.tree.state self.new.tree.state 1) }
     {
-        if self.is_bound(name) {
-            return format!(in alloc; "taken {name}\n");
+        match line {
+            Line::Root { .. } => Ok(()),
+            Line::Child {
+                name,
+                parent,
+                reservation,
+                limit,
+            } => self.child(name, parent, *reservation, *limit, text),
+            Line::Buffer { name, at, size } => self.buffer(name, at, *size, text),
+            Line::Release { name } => self.release(name, text),
+            Line::Close { at } => self.close(at, text),
+            Line::Headroom { at } => self.headroom(at, text),
+            Line::Tree => self.show(alloc, text),
         }
-        if !at.is("ROOT") {
-            return format!(in alloc; "unknown {at}\n");
-        }
-        let answer = self.tree.grant(size);
-        if answer.is_ok() {
-            self.bind(alloc, name)?;
-        }
-        buffer_text(alloc, name, answer)
-    }
-
-    fn is_bound(&self, name: &Name) -> bool
-        ensures { result ≡ list_any (bytes_eq name.now) (map string_bytes self.now.buffers.keys) }
-    {
-        self.buffers.contains(name.as_str())
-    }
-
-    // Binds a name that is free.
-    fn bind(&mut self, alloc: Global, name: &Name) -> Result<(), AllocError>
-        requires { list_any (bytes_eq name.now) (map string_bytes self.old.buffers.keys) ≡ false }
-        ensures bound { OnOk result (map string_bytes self.new.buffers.keys ≡ map string_bytes self.old.buffers.keys ++ name.now ∷ []) }
-        ensures tree { self.new.tree ≡ self.old.tree }
-    {
-        let text = String::from_str(alloc, name.as_str())?;
-        self.buffers.insert(text)?;
-        Ok(())
-    }
-
-    // The line of the root, which reserves nothing.
-    fn show(&self, alloc: Global) -> Result<String, AllocError>
-        ensures { IfOk result (λ text. string_bytes text
-            ≡ node_text (root_node self.now.tree.limit) (codes "ROOT") self.now.tree.held self.now.tree.held) }
-    {
-        let root = TreeNode {
-            number: AllocId::ROOT,
-            parent: None,
-            reservation: 0,
-            limit: self.tree.limit,
-            closed: false,
-        };
-        node_text(alloc, root, "ROOT", self.tree.held, self.tree.held)
-    }
-}
-
-// An allocator's line, after `BaseAllocator.toString` of Arrow Java.
-fn node_text(
-    alloc: Global,
-    node: TreeNode,
-    name: &str,
-    held: u64,
-    peak: u64,
-) -> Result<String, AllocError>
-    ensures { IfOk result (λ text. string_bytes text ≡ node_text node name.now held peak) }
-{
-    let TreeNode {
-        number,
-        reservation,
-        limit,
-        ..
-    } = node;
-    format!(in alloc;
-        "{number} Allocator({name}) {reservation}/{held}/{peak}/{limit} (res/actual/peak/limit)\n"
-    )
-}
-
-// What a request for a buffer of this name is answered.
-fn buffer_text(
-    alloc: Global,
-    name: &Name,
-    answer: Result<Ref, BufferRefused>,
-) -> Result<String, AllocError>
-    ensures { IfOk result (λ text. string_bytes text ≡ buffer_text name.now answer) }
-{
-    match answer {
-        Ok(buffer) => granted_text(alloc, name, buffer),
-        Err(BufferRefused::TooLarge(refused)) => format!(in alloc; "{refused}\n"),
-        Err(BufferRefused::Closed(refused)) => format!(in alloc; "{refused}\n"),
-        Err(BufferRefused::Full(refused)) => format!(in alloc; "{refused}\n"),
-        Err(BufferRefused::NoMemory) => Err(AllocError),
-    }
-}
-
-fn granted_text(alloc: Global, name: &Name, buffer: Ref) -> Result<String, AllocError>
-    ensures { IfOk result (λ text. string_bytes text ≡ buffer_text name.now (Ok buffer)) }
-{
-    let chunk = buffer.chunk;
-    let size = buffer.size;
-    if size == 0 {
-        format!(in alloc; "buffer {name} empty\n")
-    } else {
-        format!(in alloc; "buffer {name} chunk {chunk} size {size}\n")
     }
 }

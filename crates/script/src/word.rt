@@ -1,17 +1,15 @@
 //! The words of a line, and the names and numbers among them.
-ghost use Rattle.std.specs.Prelude.{◌≡◌, take, map, IfOk};
+ghost use Rattle.std.specs.Prelude.{◌≡◌, ◌<◌, ◌∷◌, [], length, position, IfSome};
 ghost use Rattle.std.specs.List.{list_all};
 ghost use Rattle.std.specs.Char.{is_ascii_digit};
 ghost use Rattle.script.specs.Words.{is_blank, is_name, is_name_byte, is_skipped};
-ghost use Rattle.script.specs.Words.{number_of, words_of};
-
-use std::alloc::{AllocError, Global};
-
-// More words than any line has: no further ones are kept, so a long line takes little memory.
-const MOST_WORDS: usize = 6;
+ghost use Rattle.script.specs.Words.{number_of, reservation_of, words_of, words_with};
 
 /// The largest number.
 pub(crate) const MAX_NUMBER: u64 = 9_223_372_036_854_775_807;
+
+// The largest reservation.
+const MAX_RESERVATION: u64 = 1_099_511_627_776;
 
 /// Whether a line is skipped. Its words are not looked for.
 pub(crate) fn is_skipped(line: &[u8]) -> bool
@@ -23,15 +21,38 @@ pub(crate) fn is_skipped(line: &[u8]) -> bool
     }
 }
 
-/// The first words of a line: all of them, or more than any line has.
-pub(crate) fn first_words(alloc: Global, line: &[u8]) -> Result<Vec<&[u8]>, AllocError>
-    ensures { IfOk result (λ words.
-        map (λ word. word.now) words.items ≡ take 6 (words_of line.now)) }
+/// The first word of a line, and what follows it.
+pub(crate) fn first_word(line: &[u8]) -> Option<(&[u8], &[u8])>
+    ensures some { IfSome result (λ parts. words_of line.now ≡ parts.0.now ∷ words_of parts.1.now) }
+    ensures none { result ≡ None → words_of line.now ≡ [] }
 {
-    line.split(|byte| is_blank(*byte))
-        .filter(|word| !word.is_empty())
-        .take(MOST_WORDS)
-        .collect(alloc)
+    let mut rest = line;
+    while !rest.is_empty() {
+        let (part, more) = first_part(rest);
+        if !part.is_empty() {
+            return Some((part, more));
+        }
+        rest = more;
+    }
+    None
+}
+
+// What stands before the first blank, and what follows it.
+fn first_part(line: &[u8]) -> (&[u8], &[u8])
+    requires { 0 < length line.now }
+    ensures words { words_of line.now ≡ words_with result.0.now (words_of result.1.now) }
+    ensures shorter { length result.1.now < length line.now }
+{
+    match blank(line) {
+        Some(end) => (&line[..end], &line[end + 1..]),
+        None => (line, &[]),
+    }
+}
+
+fn blank(line: &[u8]) -> Option<usize>
+    ensures { result ≡ position is_blank line.now }
+{
+    line.iter().position(|byte| is_blank(*byte))
 }
 
 /// Whether a word is a name.
@@ -57,6 +78,18 @@ pub(crate) fn number_of(word: &[u8]) -> Option<u64>
         return None;
     };
     if value <= MAX_NUMBER {
+        Some(value)
+    } else {
+        None
+    }
+}
+
+/// The reservation that a word is.
+pub(crate) fn reservation_of(word: &[u8]) -> Option<u64>
+    ensures { result ≡ reservation_of word.now }
+{
+    let value = number_of(word)?;
+    if value <= MAX_RESERVATION {
         Some(value)
     } else {
         None

@@ -5,7 +5,7 @@ use crate::section::Section;
 use std::alloc::{AllocError, Global};
 use std::test::Fail;
 
-// The limit and the lines of a trace, or that it is unreadable.
+// The limit and the lines of a trace, or its first unreadable line.
 fn trace(alloc: Global, text: &str) -> Result<String, AllocError> {
     read(alloc, text.as_bytes(), Form::Trace)
 }
@@ -20,7 +20,8 @@ fn read(alloc: Global, bytes: &[u8], form: Form) -> Result<String, AllocError> {
                 show(section, &mut shown)?;
             }
         }
-        Err(refused) => write!(shown, "{refused:?}")?,
+        Err(ScriptRefused::Bad { line }) => write!(shown, "line {line}")?,
+        Err(ScriptRefused::NoMemory) => return Err(AllocError),
     }
     Ok(shown)
 }
@@ -30,7 +31,16 @@ fn show(section: &Section, shown: &mut String) -> Result<(), AllocError> {
     for line in section.lines() {
         match line {
             Line::Root { limit } => write!(shown, " root {limit};")?,
+            Line::Child {
+                name,
+                parent,
+                reservation,
+                limit,
+            } => write!(shown, " child {name} {parent} {reservation} {limit};")?,
             Line::Buffer { name, at, size } => write!(shown, " buffer {name} {at} {size};")?,
+            Line::Release { name } => write!(shown, " release {name};")?,
+            Line::Close { at } => write!(shown, " close {at};")?,
+            Line::Headroom { at } => write!(shown, " headroom {at};")?,
             Line::Tree => write!(shown, " tree;")?,
         }
     }
@@ -45,6 +55,10 @@ fn a_script_is_its_lines_in_order(rt: HostRuntime) -> Result<(), Fail> {
         (
             "root 40\nbuffer a ROOT 16\ntree\nbuffer b x.Y_-9 0\n",
             "40: root 40; buffer a ROOT 16; tree; buffer b x.Y_-9 0;",
+        ),
+        (
+            "child c ROOT 5 0\nheadroom c\nrelease a\nclose ROOT\nchild ROOT c 0 7",
+            "9223372036854775807: child c ROOT 5 0; headroom c; release a; close ROOT; child ROOT c 0 7;",
         ),
     ] {
         assert_eq!(rt; trace(rt.alloc(), text)?.as_str(), want, "at {text:?}");
@@ -64,8 +78,8 @@ fn comments_and_blanks_say_nothing(rt: HostRuntime) -> Result<(), Fail> {
             "9223372036854775807: buffer a ROOT 1;",
         ),
         ("# first\n\nroot 5\n", "5: root 5;"),
-        ("tree # shown\n", "Bad"),
-        ("tree\n\nchild\n", "Bad"),
+        ("tree # shown\n", "line 1"),
+        ("tree\n\nchild\n", "line 3"),
     ] {
         assert_eq!(rt; trace(rt.alloc(), text)?.as_str(), want, "at {text:?}");
     }
@@ -77,11 +91,11 @@ fn a_carriage_return_goes_only_before_a_line_feed(rt: HostRuntime) -> Result<(),
     for (text, want) in [
         ("tree\r\ntree\r\n", "9223372036854775807: tree; tree;"),
         ("\r\n", "9223372036854775807:"),
-        ("tree\r", "Bad"),
-        ("\r", "Bad"),
-        ("tree\r\r\n", "Bad"),
-        ("tr\ree\n", "Bad"),
-        ("tree\rtree\n", "Bad"),
+        ("tree\r", "line 1"),
+        ("\r", "line 1"),
+        ("tree\r\r\n", "line 1"),
+        ("tr\ree\n", "line 1"),
+        ("tree\rtree\n", "line 1"),
         ("# tree\rtree", "9223372036854775807:"),
     ] {
         assert_eq!(rt; trace(rt.alloc(), text)?.as_str(), want, "at {text:?}");
@@ -102,13 +116,13 @@ fn a_number_is_digits_with_a_value_up_to_the_bound(rt: HostRuntime) -> Result<()
             "root 000000000000000000000000000000000000000001",
             "1: root 1;",
         ),
-        ("root 9223372036854775808", "Bad"),
-        ("root 18446744073709551617", "Bad"),
-        ("root +1", "Bad"),
-        ("root -1", "Bad"),
-        ("root 1_000", "Bad"),
-        ("root 0x10", "Bad"),
-        ("buffer a ROOT 9223372036854775808", "Bad"),
+        ("root 9223372036854775808", "line 1"),
+        ("root 18446744073709551617", "line 1"),
+        ("root +1", "line 1"),
+        ("root -1", "line 1"),
+        ("root 1_000", "line 1"),
+        ("root 0x10", "line 1"),
+        ("buffer a ROOT 9223372036854775808", "line 1"),
     ] {
         assert_eq!(rt; trace(rt.alloc(), text)?.as_str(), want, "at {text:?}");
     }
@@ -122,11 +136,20 @@ fn a_name_has_1_to_32_bytes(rt: HostRuntime) -> Result<(), Fail> {
             "buffer abcdefghijklmnopqrstuvwxyz_-.012 ABCDEFGHIJKLMNOPQRSTUVWXYZ345678 9",
             "9223372036854775807: buffer abcdefghijklmnopqrstuvwxyz_-.012 ABCDEFGHIJKLMNOPQRSTUVWXYZ345678 9;",
         ),
-        ("buffer abcdefghijklmnopqrstuvwxyz_-.0123 ROOT 9", "Bad"),
-        ("buffer a ABCDEFGHIJKLMNOPQRSTUVWXYZ3456789 9", "Bad"),
-        ("buffer a/b ROOT 9", "Bad"),
-        ("buffer a R:OT 9", "Bad"),
-        ("buffer ä ROOT 9", "Bad"),
+        ("buffer abcdefghijklmnopqrstuvwxyz_-.0123 ROOT 9", "line 1"),
+        ("buffer a ABCDEFGHIJKLMNOPQRSTUVWXYZ3456789 9", "line 1"),
+        ("buffer a/b ROOT 9", "line 1"),
+        ("buffer a R:OT 9", "line 1"),
+        ("buffer ä ROOT 9", "line 1"),
+        ("child abcdefghijklmnopqrstuvwxyz_-.0123 ROOT 0 9", "line 1"),
+        ("child c ABCDEFGHIJKLMNOPQRSTUVWXYZ3456789 0 9", "line 1"),
+        ("release abcdefghijklmnopqrstuvwxyz_-.0123", "line 1"),
+        ("close ABCDEFGHIJKLMNOPQRSTUVWXYZ3456789", "line 1"),
+        ("headroom ABCDEFGHIJKLMNOPQRSTUVWXYZ3456789", "line 1"),
+        (
+            "headroom ABCDEFGHIJKLMNOPQRSTUVWXYZ345678",
+            "9223372036854775807: headroom ABCDEFGHIJKLMNOPQRSTUVWXYZ345678;",
+        ),
     ] {
         assert_eq!(rt; trace(rt.alloc(), text)?.as_str(), want, "at {text:?}");
     }
@@ -145,10 +168,55 @@ fn a_line_of_another_form_is_unreadable(rt: HostRuntime) -> Result<(), Fail> {
         "root 1 2",
         "Tree",
         "trees",
-        "child a ROOT 0 9",
-        "tree\nthread\n",
+        "child c ROOT 0",
+        "child c ROOT 0 9 9",
+        "children c ROOT 0 9",
+        "release",
+        "release a b",
+        "close",
+        "close a b",
+        "headroom",
+        "headroom a b",
+        "thread",
     ] {
-        assert_eq!(rt; trace(rt.alloc(), text)?.as_str(), "Bad", "at {text:?}");
+        assert_eq!(rt; trace(rt.alloc(), text)?.as_str(), "line 1", "at {text:?}");
+    }
+    Ok(())
+}
+
+#[test]
+fn a_reservation_has_a_bound_of_its_own(rt: HostRuntime) -> Result<(), Fail> {
+    for (text, want) in [
+        (
+            "child c ROOT 1099511627776 9223372036854775807",
+            "9223372036854775807: child c ROOT 1099511627776 9223372036854775807;",
+        ),
+        (
+            "child c ROOT 00001099511627776 0007",
+            "9223372036854775807: child c ROOT 1099511627776 7;",
+        ),
+        ("child c ROOT 1099511627777 9223372036854775807", "line 1"),
+        ("child c ROOT 18446744073709551616 1", "line 1"),
+        ("child c ROOT 0 9223372036854775808", "line 1"),
+        ("child c ROOT +1 2", "line 1"),
+        ("child c ROOT 1 two", "line 1"),
+    ] {
+        assert_eq!(rt; trace(rt.alloc(), text)?.as_str(), want, "at {text:?}");
+    }
+    Ok(())
+}
+
+#[test]
+fn the_first_unreadable_line_is_told(rt: HostRuntime) -> Result<(), Fail> {
+    for (text, want) in [
+        ("bufer", "line 1"),
+        ("tree\nbufer\ntree\nbufer\n", "line 2"),
+        ("# one\n\n \t\nbuffer a ROOT\n", "line 4"),
+        ("tree\r\n#\r\n\r\nroot 5\r\nroot 5\r\n", "line 4"),
+        ("tree\ntree ROOT", "line 2"),
+        ("tree\n\n", "9223372036854775807: tree;"),
+    ] {
+        assert_eq!(rt; trace(rt.alloc(), text)?.as_str(), want, "at {text:?}");
     }
     Ok(())
 }
@@ -157,9 +225,9 @@ fn a_line_of_another_form_is_unreadable(rt: HostRuntime) -> Result<(), Fail> {
 fn a_root_line_stands_first_and_once(rt: HostRuntime) -> Result<(), Fail> {
     for (text, want) in [
         ("\n# limit\n\nroot 5\ntree\n", "5: root 5; tree;"),
-        ("root 5\nroot 5\n", "Bad"),
-        ("tree\nroot 5\n", "Bad"),
-        ("root 5\ntree\nroot 5\n", "Bad"),
+        ("root 5\nroot 5\n", "line 2"),
+        ("tree\nroot 5\n", "line 2"),
+        ("root 5\ntree\nroot 5\n", "line 3"),
     ] {
         assert_eq!(rt; trace(rt.alloc(), text)?.as_str(), want, "at {text:?}");
     }
@@ -185,16 +253,21 @@ fn a_trace_has_at_most_1000_tree_lines(rt: HostRuntime) -> Result<(), Fail> {
         assert_eq!(rt; section.lines().len(), 1000);
     }
     let more = trees(alloc, 1001)?;
-    assert_eq!(rt; read(alloc, &more, Form::Trace)?.as_str(), "Bad");
+    assert_eq!(rt; read(alloc, &more, Form::Trace)?.as_str(), "line 1001");
     Ok(())
 }
 
 #[test]
-fn a_drive_has_no_tree_line(rt: HostRuntime) -> Result<(), Fail> {
+fn a_drive_has_no_tree_and_no_headroom_line(rt: HostRuntime) -> Result<(), Fail> {
     for (text, want) in [
         ("root 5\nbuffer a ROOT 1", "5: root 5; buffer a ROOT 1;"),
-        ("root 5\ntree\n", "Bad"),
+        ("root 5\ntree\n", "line 2"),
+        ("headroom ROOT\n", "line 1"),
         ("# tree\n", "9223372036854775807:"),
+        (
+            "child c ROOT 0 9\nbuffer a c 1\nrelease a\nclose c\n",
+            "9223372036854775807: child c ROOT 0 9; buffer a c 1; release a; close c;",
+        ),
     ] {
         let bytes = text.as_bytes();
         assert_eq!(rt;
@@ -210,11 +283,11 @@ fn a_drive_has_no_tree_line(rt: HostRuntime) -> Result<(), Fail> {
 fn bytes_that_are_no_text_stand_in_comments_only(rt: HostRuntime) -> Result<(), Fail> {
     for (bytes, want) in [
         (b"# \xff\xfe\n".as_slice(), "9223372036854775807:"),
-        (b"tree\xff".as_slice(), "Bad"),
-        (b"\xff#\n".as_slice(), "Bad"),
-        (b"root 1\x80".as_slice(), "Bad"),
-        (b"buffer a\xc3\xa4 ROOT 1".as_slice(), "Bad"),
-        (b"tree\0".as_slice(), "Bad"),
+        (b"tree\xff".as_slice(), "line 1"),
+        (b"\xff#\n".as_slice(), "line 1"),
+        (b"root 1\x80".as_slice(), "line 1"),
+        (b"buffer a\xc3\xa4 ROOT 1".as_slice(), "line 1"),
+        (b"tree\0".as_slice(), "line 1"),
     ] {
         assert_eq!(rt;
             read(rt.alloc(), bytes, Form::Trace)?.as_str(),

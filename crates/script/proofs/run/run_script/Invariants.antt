@@ -1,13 +1,14 @@
-use Rattle.std.proofs.Common.{◌≡◌, ◌+◌, ◌≤◌, ◌++◌, drop, length}
-use Rattle.std.specs.List.{flat_map}
-use Rattle.script.specs.Trace.{TraceState, opened_trace, text_of}
-use Rattle.script.specs.Shown.{IsAt}
+-- The sections left print the rest of the whole, and draw at most as many numbers as they have lines.
+use Rattle.std.proofs.Common.{◌+◌, ◌≤◌, ◌++◌, All, drop, length}
+use Rattle.script.specs.Grammar.{HasBounds}
+use Rattle.script.specs.Trace.{opened_trace, text_of, state_after}
+use Rattle.script.proofs.RunLemmas.{Reaches, joined}
 use Rattle.script.proofs.run.run_script.Given as goal
 
 abbrev pub invariant-loop-section : goal.invariant-loop-section
 invariant-loop-section l = record {
-  drawn : l.trace.tree.drawn + length (flat_map (λ section. section) (drop l.section-index l.section-items)) ≤ length (flat_map (λ section. section) l.section-items);
-  reached : (now : TraceState) × IsAt l.trace now
-      × (l.out.items ++ text_of now (flat_map (λ section. section) (drop l.section-index l.section-items))
-      ≡ l.initial.out.items ++ text_of (opened_trace l.script.limit) (flat_map (λ section. section) l.section-items));
+  bounds : All HasBounds (joined (drop l.section-index l.section-items));
+  chunks : l.trace.tree.state.drawn + length (joined (drop l.section-index l.section-items)) ≤ length (joined l.section-items);
+  allocators : l.trace.tree.state.next + length (joined (drop l.section-index l.section-items)) ≤ length (joined l.section-items) + 1;
+  reached : Reaches l.trace l.out.items (joined (drop l.section-index l.section-items)) (l.initial.out.items ++ text_of (opened_trace l.script.limit) (joined l.section-items)) (state_after (opened_trace l.script.limit) (joined l.section-items));
 }

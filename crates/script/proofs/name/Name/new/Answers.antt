@@ -1,6 +1,7 @@
 -- A name is text.
+use Rattle.std.proofs.Common.{sym}
 use Rattle.script.proofs.WordLemmas.{name_utf8}
 use Rattle.script.proofs.name.Name.new.Goals as goal
 
-pub unreachable-requires : goal.unreachable-requires
-unreachable-requires c = c.in-Err.ensures.cases.0 (name_utf8 _ c.requires)
+pub returns-in-Err : goal.returns-in-Err
+returns-in-Err c = absurd (c.in-Err.ensures.cases.0 (name_utf8 _ (sym c.if-not-is_name.ensures)))

@@ -1,0 +1,112 @@
+-- The numbers of a line that was read are in their bounds.
+use Rattle.std.proofs.Common.{◌≡◌, ℕ, ◌<◌, ◌≤◌, Bool, true, false, ◌&&◌, leb, ltb, List, [], ◌∷◌, length, map, All, Option, Some, None, if◌then◌else◌, refl, sym, subst, arith, codes}
+use Rattle.std.specs.Option.{option_map}
+use Rattle.std.specs.Str.{bytes_eq}
+use Rattle.std.specs.Char.{is_ascii_digit}
+use Rattle.std.specs.List.{list_all}
+use Rattle.std.proofs.lemmas.Bool.{and_parts}
+use Rattle.std.proofs.lemmas.Bool.Decides.{nat_tests}
+use Rattle.std.specs.Str.Parse.{digits_value}
+use Rattle.std.proofs.lemmas.List.Elements.{All-cons}
+use Rattle.script.specs.declared.form.Form.{Form}
+use Rattle.script.specs.declared.line.Line.{Line}
+use Rattle.script.specs.declared.line.Line.TheVariants.{Root, Child, Buffer, Release, Close, Headroom, Tree}
+use Rattle.script.specs.Words.{is_name, is_number, name_of, number_of, reservation_of, commands_of}
+use Rattle.script.specs.Grammar.{line_of, child_of, limit_of, lines_of, HasBounds, ScriptParts, IsScript}
+
+-- what is of a choice is of one side
+from_if : {A : Type 0} (P : A → Type 0) (b : Bool) (x y : Option A) (v : A)
+    → (x ≡ Some v → P v) → (y ≡ Some v → P v) → (if b then x else y) ≡ Some v → P v
+from_if P true x y v left right is = left is
+from_if P false x y v left right is = right is
+
+-- what is of a mapped value is of the value
+from_map : {X A : Type 0} (P : A → Type 0) (f : X → A) (o : Option X) (v : A)
+    → ((x : X) → o ≡ Some x → P (f x)) → option_map f o ≡ Some v → P v
+from_map P f None v of is = absurd cc
+from_map P f (Some x) v of is = let same : f x ≡ v = cc in subst P same (of x refl)
+
+-- nothing is no line
+from_none : {A : Type 0} (P : A → Type 0) (v : A) → None ≡ Some v → P v
+from_none P v is = absurd cc
+
+-- a value is itself
+from_some : {A : Type 0} (P : A → Type 0) (x v : A) → P x → Some x ≡ Some v → P v
+from_some P x v here is = let same : x ≡ v = cc in subst P same here
+
+-- a value that is told where a test passes
+from_test : (P : ℕ → Type 0) (b : Bool) (x v : ℕ) → (b ≡ true → P x) → (if b then Some x else None) ≡ Some v → P v
+from_test P true x v here is = from_some P x v (here refl) is
+from_test P false x v here is = from_none P v is
+
+-- a number is below 2 ^ 63
+is_number-bound : (word : List ℕ) → is_number word ≡ true → digits_value 10 word < 9223372036854775808
+unfolding is_number
+is_number-bound word passes =
+    let within = (and_parts (ltb 0 (length word) && list_all is_ascii_digit word) (leb (digits_value 10 word) 9223372036854775807) passes).1 in
+    grind (arith, nat_tests, within)
+
+-- so is the value that is told of it
+number_bound : (word : List ℕ) (value : ℕ) → number_of word ≡ Some value → value < 9223372036854775808
+number_bound word value is = from_test (λ v. v < 9223372036854775808) (is_number word) (digits_value 10 word) value (is_number-bound word) is
+
+-- a reservation is at most 2 ^ 40
+reservation_bound : (word : List ℕ) (value : ℕ) → reservation_of word ≡ Some value → value ≤ 1099511627776
+reservation_bound word value is =
+    from_test (λ v. v ≤ 1099511627776) (is_number word && leb (digits_value 10 word) 1099511627776) (digits_value 10 word) value
+    (λ passes. let within = (and_parts (is_number word) (leb (digits_value 10 word) 1099511627776) passes).1 in grind (arith, nat_tests, within)) is
+
+-- a child's are
+child_bounds : (name parent : List ℕ) (reservation limit : Option ℕ) (line : Line)
+    → ((r : ℕ) → reservation ≡ Some r → r ≤ 1099511627776) → ((l : ℕ) → limit ≡ Some l → l < 9223372036854775808)
+    → child_of name parent reservation limit ≡ Some line → HasBounds line
+child_bounds name parent (Some r) (Some l) line reserved limited is = from_some HasBounds (Child name parent r l) line (reserved r refl, limited l refl) is
+child_bounds name parent (Some r) None line reserved limited is = from_none HasBounds line is
+child_bounds name parent None limit line reserved limited is = from_none HasBounds line is
+
+-- those of a line that words say are
+pub line_bounds : (words : List (List ℕ)) (line : Line) → line_of words ≡ Some line → HasBounds line
+unfolding line_of
+line_bounds [] line is = from_none HasBounds line is
+line_bounds (word ∷ []) line is =
+    from_if HasBounds (bytes_eq word (codes "tree")) (Some Tree) None line (from_some HasBounds Tree line tt) (from_none HasBounds line) is
+line_bounds (word ∷ other ∷ []) line is =
+    let none = from_none HasBounds line in
+    let named : (f : List ℕ → Line) → ((name : List ℕ) → HasBounds (f name)) → option_map f (name_of other) ≡ Some line → HasBounds line =
+    λ f free. from_map HasBounds f (name_of other) line (λ name found. free name) in
+    from_if HasBounds (bytes_eq word (codes "root")) (option_map Root (number_of other)) _ line
+    (from_map HasBounds Root (number_of other) line (number_bound other))
+    (from_if HasBounds (bytes_eq word (codes "release")) (option_map Release (name_of other)) _ line (named Release (λ name. tt))
+    (from_if HasBounds (bytes_eq word (codes "close")) (option_map Close (name_of other)) _ line (named Close (λ name. tt))
+    (from_if HasBounds (bytes_eq word (codes "headroom")) (option_map Headroom (name_of other)) None line (named Headroom (λ name. tt)) none))) is
+line_bounds (word ∷ name ∷ at ∷ []) line is = from_none HasBounds line is
+line_bounds (word ∷ name ∷ at ∷ size ∷ []) line is =
+    from_if HasBounds (bytes_eq word (codes "buffer") && is_name name && is_name at) (option_map (Buffer name at) (number_of size)) None line
+    (from_map HasBounds (Buffer name at) (number_of size) line (λ s found. tt)) (from_none HasBounds line) is
+line_bounds (word ∷ name ∷ parent ∷ reservation ∷ limit ∷ []) line is =
+    from_if HasBounds (bytes_eq word (codes "child") && is_name name && is_name parent) (child_of name parent (reservation_of reservation) (number_of limit)) None line
+    (child_bounds name parent (reservation_of reservation) (number_of limit) line (reservation_bound reservation) (number_bound limit)) (from_none HasBounds line) is
+line_bounds (word ∷ a ∷ b ∷ c ∷ d ∷ e ∷ more) line is = from_none HasBounds line is
+
+-- those of all lines are, where each is said
+says_bounds : (words : List (List (List ℕ))) (said : List Line) → map line_of words ≡ map Some said → All HasBounds said
+says_bounds words [] each = λ k d within. absurd (omega arith)
+says_bounds [] (line ∷ said) each = absurd cc
+says_bounds (first ∷ words) (line ∷ said) each =
+    let here : line_of first ≡ Some line = cc in
+    let rest : map line_of words ≡ map Some said = cc in
+    All-cons HasBounds line said (line_bounds first line here) (says_bounds words said rest)
+
+-- and so is the root's limit
+limit_bound : (lines : List Line) → All HasBounds lines → limit_of lines < 9223372036854775808
+limit_bound (Root limit ∷ lines) all = all 0 (Root limit) (omega arith)
+limit_bound _ all = omega arith
+
+-- the numbers of a script are in their bounds
+pub script_bounds : (form : Form) (text : List (List ℕ)) (script : ScriptParts) → IsScript form text script → All HasBounds (lines_of script)
+script_bounds form text script is = says_bounds (commands_of text) (lines_of script) is.lines.each
+
+-- so is its limit
+pub script_limit : (form : Form) (text : List (List ℕ)) (script : ScriptParts) → IsScript form text script → script.limit < 9223372036854775808
+script_limit form text script is =
+    subst (λ limit. limit < 9223372036854775808) (sym is.limit) (limit_bound (lines_of script) (script_bounds form text script is))

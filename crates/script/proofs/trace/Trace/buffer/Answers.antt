@@ -1,0 +1,10 @@
+-- The call draws at most one number.
+use Rattle.std.proofs.Common.{subst, sym}
+use Rattle.std.proofs.lemmas.Result.{on_ok_weaker}
+use Rattle.script.specs.Shown.{DrawsNumbers}
+use Rattle.script.proofs.NumberLemmas.{grant_draws}
+use Rattle.script.proofs.trace.Trace.buffer.Goals as goal
+
+pub returns-clause-draws : goal.returns-clause-draws
+returns-clause-draws c =
+    on_ok_weaker _ (λ given. subst (λ tree. DrawsNumbers c.args.self.now.tree.state tree 1) (sym (c.grant-answer.ensures.after given).state) (grant_draws _ c.in-Some.id c.args.size)) c.write_buffer.ensures.memory

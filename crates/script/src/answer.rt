@@ -1,0 +1,117 @@
+//! The answers of a trace's lines, written to a text.
+ghost use Rattle.std.specs.Prelude.{◌≡◌, ◌≢◌, ◌++◌, Err, OnOk, string_bytes};
+ghost use Rattle.script.specs.Answers.{taken_text, unknown_text, child_text, buffer_text};
+ghost use Rattle.script.specs.Answers.{empty_text, release_text, close_text, headroom_text};
+
+use crate::name::Name;
+use mem_num::{AllocId, BufferRefused, ChildRefused, Closed, NotClosed, Ref, Released};
+use std::alloc::AllocError;
+
+pub(crate) fn write_taken(text: &mut String, name: &Name) -> Result<(), AllocError>
+    ensures { OnOk result (string_bytes text.new ≡ string_bytes text.old ++ taken_text name.now) }
+{
+    write!(text, "taken {name}\n")
+}
+
+pub(crate) fn write_unknown(text: &mut String, name: &Name) -> Result<(), AllocError>
+    ensures { OnOk result (string_bytes text.new ≡ string_bytes text.old ++ unknown_text name.now) }
+{
+    write!(text, "unknown {name}\n")
+}
+
+pub(crate) fn write_child(
+    text: &mut String,
+    name: &Name,
+    answer: Result<AllocId, ChildRefused>,
+) -> Result<(), AllocError>
+    ensures { OnOk result (string_bytes text.new
+        ≡ string_bytes text.old ++ child_text name.now answer) }
+{
+    match answer {
+        Ok(number) => write!(text, "child {name} is {number}\n"),
+        Err(refused) => write!(text, "{refused}\n"),
+    }
+}
+
+/// Want of memory has no text.
+pub(crate) fn write_buffer(
+    text: &mut String,
+    name: &Name,
+    answer: Result<Ref, BufferRefused>,
+) -> Result<(), AllocError>
+    ensures memory { OnOk result (answer ≢ Err BufferRefused.NoMemory) }
+    ensures text { OnOk result (string_bytes text.new
+        ≡ string_bytes text.old ++ buffer_text name.now answer) }
+{
+    match answer {
+        Ok(buffer) => write_granted(text, name, buffer),
+        Err(BufferRefused::TooLarge(refused)) => write!(text, "{refused}\n"),
+        Err(BufferRefused::Closed(refused)) => write!(text, "{refused}\n"),
+        Err(BufferRefused::Full(refused)) => write!(text, "{refused}\n"),
+        Err(BufferRefused::NoMemory) => Err(AllocError),
+    }
+}
+
+fn write_granted(text: &mut String, name: &Name, buffer: Ref) -> Result<(), AllocError>
+    ensures { OnOk result (string_bytes text.new
+        ≡ string_bytes text.old ++ buffer_text name.now (Ok buffer)) }
+{
+    let chunk = buffer.chunk;
+    let size = buffer.size;
+    if size == 0 {
+        write!(text, "buffer {name} empty\n")
+    } else {
+        write!(text, "buffer {name} chunk {chunk} size {size}\n")
+    }
+}
+
+pub(crate) fn write_empty(text: &mut String, name: &Name) -> Result<(), AllocError>
+    ensures { OnOk result (string_bytes text.new ≡ string_bytes text.old ++ empty_text name.now) }
+{
+    write!(text, "release {name} empty\n")
+}
+
+pub(crate) fn write_release(
+    text: &mut String,
+    name: &Name,
+    answer: Result<bool, Released>,
+) -> Result<(), AllocError>
+    ensures { OnOk result (string_bytes text.new
+        ≡ string_bytes text.old ++ release_text name.now answer) }
+{
+    match answer {
+        Ok(true) => write!(text, "release {name} gone\n"),
+        Ok(false) => write!(text, "release {name} kept\n"),
+        Err(refused) => write!(text, "{refused}\n"),
+    }
+}
+
+pub(crate) fn write_close(
+    text: &mut String,
+    name: &Name,
+    at: AllocId,
+    answer: Result<(), NotClosed>,
+) -> Result<(), AllocError>
+    ensures { OnOk result (string_bytes text.new
+        ≡ string_bytes text.old ++ close_text name.now at answer) }
+{
+    match answer {
+        Ok(()) => write!(text, "close {name} ok\n"),
+        Err(NotClosed::InUse { uses }) => write!(text, "inuse {uses}\n"),
+        Err(NotClosed::Closed { uses: _ }) => write!(text, "closed {at}\n"),
+    }
+}
+
+pub(crate) fn write_headroom(
+    text: &mut String,
+    name: &Name,
+    answer: Result<i128, Closed>,
+) -> Result<(), AllocError>
+    ensures { OnOk result (string_bytes text.new
+        ≡ string_bytes text.old ++ headroom_text name.now answer) }
+{
+    match answer {
+        Ok(bytes) => write!(text, "headroom {name} {bytes}\n"),
+        Err(refused) => write!(text, "{refused}\n"),
+    }
+}

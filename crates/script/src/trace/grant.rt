@@ -1,0 +1,57 @@
+//! Asking for a buffer.
+ghost use Rattle.std.specs.Prelude.{◌≡◌, OnOk, string_bytes};
+ghost use Rattle.script.specs.declared.line.Line.TheVariants as line;
+ghost use Rattle.script.specs.Trace.{buffers_after};
+ghost use Rattle.script.specs.Shown.{PrintsLine, HasNumbers, DrawsNumbers};
+
+use crate::answer::{write_buffer, write_taken, write_unknown};
+use crate::buffer::{Buffer, Buffers};
+use crate::name::Name;
+use crate::trace::Trace;
+use mem_num::{BufferRefused, Ref};
+use std::alloc::AllocError;
+
+impl<'a> Trace<'a> {
+    /// Asks for a buffer at the allocator that `at` names.
+    pub(crate) fn buffer(
+        &mut self,
+        name: &Name<'a>,
+        at: &Name,
+        size: u64,
+        text: &mut String,
+    ) -> Result<(), AllocError>
+        requires numbers { HasNumbers self.old.tree.state 1 }
+        ensures prints { OnOk result
+            (PrintsLine self.old self.new (string_bytes text.old) (string_bytes text.new)
+            (line.Buffer name.now at.now size)) }
+        ensures draws { OnOk result (DrawsNumbers self.old.tree.state self.new.tree.state 1) }
+    {
+        if self.buffers.find(name).is_some() {
+            return write_taken(text, name);
+        }
+        let Some(id) = self.names.find(at.as_str()) else {
+            return write_unknown(text, at);
+        };
+        let answer = self.tree.grant(id, size);
+        bind(&mut self.buffers, name, answer)?;
+        write_buffer(text, name, answer)
+    }
+}
+
+// Binds the name of a buffer that was given.
+fn bind<'a>(
+    buffers: &mut Buffers<'a>,
+    name: &Name<'a>,
+    answer: Result<Ref, BufferRefused>,
+) -> Result<(), AllocError>
+    ensures { OnOk result (buffers.new ≡ buffers_after buffers.old name.now answer) }
+{
+    let Ok(reference) = answer else {
+        return Ok(());
+    };
+    let buffer = Buffer {
+        reference,
+        given_back: false,
+    };
+    buffers.bind(name, buffer)
+}
