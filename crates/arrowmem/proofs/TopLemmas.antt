@@ -26,10 +26,10 @@ module _ (words : List (List ℕ)) where
   long_answers None name output named given is = tt
   long_answers (Some files) name output named given is = subst (Answers words files status.TooLong) (sym is) (too_long named given)
 
-  -- an input that was read is a trace or isn't
+  -- an input that was read is a trace or has a first unreadable line
   traced : (files : Told) (name input output : List ℕ) (ended : Status) → trace_file words ≡ Some name → reading files name max_input ≡ Ok input → TracesTo name input output ended → Answers words files ended output
   traced files name input output status.Done named given h = subst (Answers words files status.Done) (sym h.2) (done named given h.1)
-  traced files name input output status.Unreadable named given h = subst (Answers words files status.Unreadable) (sym h.1) (unreadable named given h.0)
+  traced files name input output status.Unreadable named given h = subst (Answers words files status.Unreadable) (sym h.2) (unreadable named given h.1)
   traced files name input output _ named given h = absurd h
 
   pub trace_answers : {E : Type 0} (told : Option Told) (name input output : List ℕ) (result : Result Status E) → trace_file words ≡ Some name → IfSome told (λ files. reading files name max_input ≡ Ok input)

@@ -1,9 +1,9 @@
 -- What a run of the program comes to: its status and its output, by the words of its command line and the files.
-use Rattle.std.specs.Prelude.{◌≡◌, ◌≢◌, ℕ, List, ◌++◌, take, Option, Some, None, Ok, Err, codes}
+use Rattle.std.specs.Prelude.{◌≡◌, ◌≢◌, ℕ, List, ◌++◌, take, Option, Some, None, Ok, Err, codes, decimal}
 use Rattle.std.specs.Str.Lines.{lines}
 use Rattle.mem_io.specs.Shelf.{Told, reading}
 use Rattle.mem_io.specs.declared.shelf.ShelfFault.TheVariants.{Failed, TooLong as Longer}
-use Rattle.script.specs.Grammar.{ScriptParts, IsScript, IsUnreadable}
+use Rattle.script.specs.Grammar.{ScriptParts, IsScript, IsFirstUnreadable}
 use Rattle.script.specs.Trace.{trace_text}
 use Rattle.script.specs.declared.form.Form.TheVariants.{Trace}
 use Rattle.arrowmem.specs.Words.{trace_file}
@@ -21,6 +21,10 @@ usage_text = codes "usage: arrowmem trace FILE | drive FILE | query PLAN DATA [-
 abbrev pub file_line : List ℕ → List ℕ → List ℕ
 file_line what name = what ++ (name ++ codes "\n")
 
+-- the line that names the first unreadable line of a file, by its number
+abbrev pub unreadable_text : List ℕ → ℕ → List ℕ
+unreadable_text name line = codes "input: " ++ (name ++ (codes " line " ++ (decimal line ++ codes "\n")))
+
 abbrev pub no_memory_text : List ℕ
 no_memory_text = codes "no memory\n"
 
@@ -28,7 +32,7 @@ no_memory_text = codes "no memory\n"
 pub data Answers (words : List (List ℕ)) (files : Told) : Status → List ℕ → Type 0 where
   done : {name input : List ℕ} {script : ScriptParts} → trace_file words ≡ Some name → reading files name max_input ≡ Ok input → IsScript Trace (lines input) script → Answers words files Done (trace_text script)
   usage : trace_file words ≡ None → Answers words files Usage usage_text
-  unreadable : {name input : List ℕ} → trace_file words ≡ Some name → reading files name max_input ≡ Ok input → IsUnreadable Trace (lines input) → Answers words files Unreadable (file_line (codes "input: ") name)
+  unreadable : {name input : List ℕ} {line : ℕ} → trace_file words ≡ Some name → reading files name max_input ≡ Ok input → IsFirstUnreadable Trace (lines input) line → Answers words files Unreadable (unreadable_text name line)
   read_fault : {name : List ℕ} → trace_file words ≡ Some name → reading files name max_input ≡ Err Failed → Answers words files ReadFault (file_line (codes "read fault: ") name)
   too_long : {name : List ℕ} → trace_file words ≡ Some name → reading files name max_input ≡ Err Longer → Answers words files TooLong (file_line (codes "too long: ") name)
   no_memory : Answers words files NoMemory no_memory_text

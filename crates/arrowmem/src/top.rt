@@ -4,7 +4,7 @@ ghost use Rattle.mem_io.specs.Faults.{Rose, fails_next, plan_after};
 ghost use Rattle.mem_io.specs.Shelf.{after_call};
 ghost use Rattle.arrowmem.specs.Status.{code_of};
 ghost use Rattle.arrowmem.specs.Words as spec;
-ghost use Rattle.arrowmem.specs.RunsTo.{Answers, Delivers, RunsTo, Writes, file_line};
+ghost use Rattle.arrowmem.specs.RunsTo.{Answers, Delivers, RunsTo, Writes, file_line, unreadable_text};
 ghost use Rattle.arrowmem.specs.Steps.{EndsAs, IsPlanned, TracesTo};
 ghost use Rattle.arrowmem.specs.declared.status.Status.{Status as AnyStatus};
 
@@ -119,8 +119,8 @@ fn trace(alloc: Global, file: &str, input: &[u8], out: &mut Vec<u8>) -> Result<S
 {
     match run_trace(alloc, input, out) {
         Ok(()) => Ok(Status::Done),
-        Err(ScriptRefused::Bad) => {
-            say(alloc, out, "input: ", file)?;
+        Err(ScriptRefused::Bad { line }) => {
+            say_unreadable(alloc, out, file, line)?;
             Ok(Status::Unreadable)
         }
         Err(ScriptRefused::NoMemory) => Err(AllocError),
@@ -132,6 +132,14 @@ fn say(alloc: Global, out: &mut Vec<u8>, what: &str, file: &str) -> Result<(), A
     ensures { OnOk result (out.new.items ≡ out.old.items ++ file_line what.now file.now) }
 {
     let text = format!(in alloc; "{what}{file}\n")?;
+    out.extend_from_slice(text.as_bytes())
+}
+
+// Adds the line on the first unreadable line of a file.
+fn say_unreadable(alloc: Global, out: &mut Vec<u8>, file: &str, line: u64) -> Result<(), AllocError>
+    ensures { OnOk result (out.new.items ≡ out.old.items ++ unreadable_text file.now line) }
+{
+    let text = format!(in alloc; "input: {file} line {line}\n")?;
     out.extend_from_slice(text.as_bytes())
 }
 

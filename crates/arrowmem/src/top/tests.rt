@@ -200,7 +200,7 @@ fn a_fault_is_told_with_the_name_of_the_file_and_nothing_else(rt: HostRuntime) -
         ("gone", [].as_slice(), 5, "read fault: gone\n"),
         ("fine", [1].as_slice(), 5, "read fault: fine\n"),
         ("fine", [2].as_slice(), 0, "buffer a chunk 1 size 8\n"),
-        ("typo", [].as_slice(), 3, "input: typo\n"),
+        ("typo", [].as_slice(), 3, "input: typo line 3\n"),
         ("typo", [1].as_slice(), 5, "read fault: typo\n"),
     ] {
         let files = [
