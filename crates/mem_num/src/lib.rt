@@ -14,6 +14,7 @@ mod placed;
 mod ref_refused;
 mod released;
 mod rounding;
+mod solo_refused;
 mod too_large;
 
 pub use alloc_id::AllocId;
@@ -29,4 +30,5 @@ pub use placed::Placed;
 pub use ref_refused::RefRefused;
 pub use released::Released;
 pub use rounding::{LARGEST, Rounding, rounded};
+pub use solo_refused::SoloRefused;
 pub use too_large::TooLarge;
