@@ -4,7 +4,7 @@ use Rattle.std.proofs.lemmas.List.{length-map}
 use Rattle.std.proofs.lemmas.List.Elements.{All-map}
 use Rattle.std.proofs.lemmas.List.Sums.{sum_by-le}
 use Rattle.mem_model.specs.declared.charge.Charge.{Charge}
-use Rattle.mem_model.specs.declared.chunk.Chunk.{Chunk}
+use Rattle.mem_model.specs.Chunk.{Chunk}
 use Rattle.mem_model.specs.declared.tree_node.TreeNode.{TreeNode}
 use Rattle.mem_model.specs.Bound.{all_of}
 use Rattle.mem_model.specs.Chunk.{charge_of}

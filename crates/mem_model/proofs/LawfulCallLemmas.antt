@@ -1,12 +1,10 @@
 -- Each call keeps the law of the tree's state.
-use Rattle.std.proofs.Common.{◌≡◌, ℕ, ◌+◌, ◌<◌, ◌≤◌, ◌^◌, true, not, ◌==◌, nat_lt, nat_le, refl, arith, Option, Some, None}
-use Rattle.std.specs.List.{list_any}
+use Rattle.std.proofs.Common.{◌≡◌, ℕ, ◌<◌, ◌≤◌, ◌^◌, true, not, ◌==◌, nat_lt, nat_le, arith, Option, Some, None}
 use Rattle.std.proofs.lemmas.Bool.{cond_both, not-false, eqb-false, ltb-false, leb-false}
 use Rattle.mem_num.specs.Rounded.{rounded_size}
 use Rattle.mem_num.specs.declared.rounding.TheConstants.{LARGEST}
 use Rattle.mem_num.specs.declared.rounding.Rounding.TheVariants.{Power}
 use Rattle.mem_num.specs.declared.alloc_id.AllocId.{AllocId}
-use Rattle.mem_num.specs.declared.buffer_ref.Ref.{Ref}
 use Rattle.mem_model.specs.declared.charge.Charge.{Charge}
 use Rattle.mem_model.specs.declared.tree_node.TreeNode.{TreeNode}
 use Rattle.mem_model.specs.Request.{refusing_level}
@@ -14,9 +12,8 @@ use Rattle.mem_model.specs.TreeState.{TreeState, CallResult, charges_in, is_open
 use Rattle.mem_model.specs.Grant.{after_charge, grant_result}
 use Rattle.mem_model.specs.Child.{most_nodes, child_node, after_child, child_result}
 use Rattle.mem_model.specs.Close.{close_result}
-use Rattle.mem_model.specs.Release.{refers_to, release_result}
 use Rattle.mem_model.specs.LawfulState.{IsLawfulState}
-use Rattle.mem_model.proofs.LawfulLemmas.{lawful-spend_chunk, lawful-push_chunk, lawful-release, lawful-spend_number, lawful-push_child}
+use Rattle.mem_model.proofs.LawfulLemmas.{lawful-spend_chunk, lawful-push_chunk, lawful-spend_number, lawful-push_child}
 use Rattle.mem_model.proofs.LawfulCloseLemmas.{lawful-close}
 
 -- what a call leaves is lawful
@@ -25,7 +22,7 @@ LeavesLawful result = IsLawfulState result.state
 
 -- a charge keeps the law, whichever level refuses it
 lawful-after_charge : (state : TreeState) (request : Charge) (refusing : Option TreeNode) → IsLawfulState state → 1 ≤ request.amount → request.amount ≤ 2 ^ 30 → is_open state request.at.0 ≡ true → IsLawfulState (after_charge state request refusing)
-lawful-after_charge state request None h some few open_ = lawful-push_chunk state (record { number = state.drawn + 1; size = request.amount; owner = request.at }) h refl some few open_
+lawful-after_charge state request None h some few open_ = lawful-push_chunk state request.amount request.at h some few open_
 lawful-after_charge state request (Some level) h some few open_ = lawful-spend_chunk state h
 
 -- a request for a buffer keeps the law
@@ -62,9 +59,3 @@ lawful-close_call state at h =
     cond_both (not (is_open state at.0)) _ _ LeavesLawful (λ _. h) (λ open_.
     cond_both (nat_lt 0 (uses_of state at.0)) _ _ LeavesLawful (λ _. h) (λ unused.
     lawful-close state at.0 h (omega (arith, ltb-false 0 (uses_of state at.0) unused))))
-
--- giving a reference back keeps the law
-pub lawful-release_call : (state : TreeState) (of : Ref) → IsLawfulState state → IsLawfulState (release_result state of).state
-unfolding release_result
-lawful-release_call state of h =
-    cond_both (list_any (refers_to of) state.chunks) _ _ LeavesLawful (λ _. lawful-release state of.chunk h) (λ _. h)

@@ -1,8 +1,8 @@
 -- An allocator without uses can be closed, and a closed one has none.
-use Rattle.std.proofs.Common.{◌≡◌, ℕ, ◌+◌, ◌<◌, List, get_or, true, false, not, ◌==◌, eqb, refl, sym, ap, subst, ◌∙◌, arith, Option, Some, None, All, Any}
+use Rattle.std.proofs.Common.{◌≡◌, ℕ, ◌+◌, ◌<◌, ◌≤◌, List, get_or, true, false, not, eqb, refl, sym, ap, subst, ◌∙◌, arith, Option, Some, None, All, Any}
 use Rattle.std.specs.List.{list_any}
 use Rattle.std.specs.Option.{ForSome}
-use Rattle.std.proofs.lemmas.Bool.{cond-false, cond_both, and_parts, eqb-true, eq-eqb, ne_eqb, not-true, true≢false, both_ways, false_from_ne_true}
+use Rattle.std.proofs.lemmas.Bool.{lt-ltb, ltb-true, cond-false, cond_both, and_parts, eqb-true, eq-eqb, ne_eqb, not-true, true≢false, both_ways, false_from_ne_true}
 use Rattle.std.proofs.lemmas.List.Elements.{All-weaker, All-map}
 use Rattle.std.proofs.lemmas.List.Folds.{Any-from_list_any, list_any-from_Any}
 use Rattle.mem_num.specs.declared.alloc_id.AllocId.{AllocId}
@@ -11,7 +11,10 @@ use Rattle.mem_model.specs.TreeNode.{is_number, is_open_child, IsParentOf, HasPa
 use Rattle.mem_model.specs.TreeState.{TreeState, is_open, ledgers_of, children_of, uses_of}
 use Rattle.mem_model.specs.Close.{closed_where, with_closed}
 use Rattle.mem_model.specs.LawfulState.{IsWithinBounds, IsLawfulState}
-use Rattle.mem_model.proofs.LawfulLemmas.{live_after}
+use Rattle.mem_model.specs.Chunk.{has_ledger}
+use Rattle.mem_model.specs.Ledgers.{count_of}
+use Rattle.mem_model.proofs.LawfulLemmas.{lawful_after}
+use Rattle.mem_model.proofs.ReferenceLemmas.{ledger-counted, referrer_open}
 use Rattle.mem_model.proofs.OpenLemmas.{is_open_at, open_parts, open_from, Any-map, AllPairs-map, none_counted, count_none}
 
 -- a fact of a node that a closed one keeps
@@ -85,15 +88,19 @@ pub lawful-close : (state : TreeState) (n : ℕ) → IsLawfulState state → use
 lawful-close state n h unused =
     let after : TreeState = record state { nodes = with_closed n state.nodes } in
     let no_child : All (λ node. is_open_child n node ≡ false) state.nodes = none_counted (is_open_child n) state.nodes (let sum : ledgers_of state n + children_of state n ≡ 0 = unused in omega (arith, sum)) in
-    let no_ledger : All (λ chunk. (chunk.owner.0 == n) ≡ false) state.chunks = none_counted (λ chunk. chunk.owner.0 == n) state.chunks (let sum : ledgers_of state n + children_of state n ≡ 0 = unused in omega (arith, sum)) in
+    let no_ledger : All (λ chunk. has_ledger n chunk ≡ false) state.chunks = none_counted (has_ledger n) state.chunks (let sum : ledgers_of state n + children_of state n ≡ 0 = unused in omega (arith, sum)) in
     record {
       tree = tree-close n state.nodes no_child h.tree;
       nodes = All-map (IsWithinBounds state.next) (closed_where n) state.nodes (All-weaker (IsWithinBounds state.next) (λ node. IsWithinBounds state.next (closed_where n node)) (bounds-close state.next n) state.nodes h.nodes);
       in_order = h.in_order;
       chunks = λ k d within.
           let chunk = get_or state.chunks k d in
-          let other : chunk.owner.0 ≡ n → ⊥ = λ same. both_ways (chunk.owner.0 == n) (no_ledger k d within) (eq-eqb chunk.owner.0 n same) in
-          live_after state after chunk (h.chunks k d within) (omega arith) (open-close n chunk.owner.0 state.nodes other (h.chunks k d within).owner);
+          let lawful = h.chunks k d within in
+          lawful_after state after chunk lawful (omega arith) (λ i l in_.
+          let at = (get_or chunk.ledgers i l).at.0 in
+          let some : 1 ≤ count_of chunk.ledgers at = ledger-counted chunk.ledgers i l lawful.in_order.counted in_ in
+          let other : at ≡ n → ⊥ = λ same. both_ways (has_ledger n chunk) (no_ledger k d within) (lt-ltb 0 (count_of chunk.ledgers n) (subst (λ m. 1 ≤ count_of chunk.ledgers m) same some)) in
+          open-close n at state.nodes other (lawful.open_ i l in_));
     }
 
 -- an identifier that has the number n
@@ -118,7 +125,7 @@ pub uses-closed : (state : TreeState) (n : ℕ) → IsLawfulState state → is_o
 uses-closed state n h shut =
     let no_child : children_of state n ≡ 0 = count_none (is_open_child n) state.nodes (λ k d within.
     false_from_ne_true (is_open_child n (get_or state.nodes k d)) (λ child. both_ways (is_open state n) shut (child_open state n (get_or state.nodes k d) (h.tree.parents k d within) child))) in
-    let no_ledger : ledgers_of state n ≡ 0 = count_none (λ chunk. chunk.owner.0 == n) state.chunks (λ k d within.
+    let no_ledger : ledgers_of state n ≡ 0 = count_none (has_ledger n) state.chunks (λ k d within.
     let chunk = get_or state.chunks k d in
-    false_from_ne_true (chunk.owner.0 == n) (λ owns. both_ways (is_open state n) shut (subst (λ m. is_open state m ≡ true) (eqb-true chunk.owner.0 n owns) (h.chunks k d within).owner))) in
+    false_from_ne_true (has_ledger n chunk) (λ refers. both_ways (is_open state n) shut (referrer_open state chunk n (h.chunks k d within) (ltb-true 0 (count_of chunk.ledgers n) refers)))) in
     omega (arith, no_child, no_ledger)

@@ -7,14 +7,17 @@ use Rattle.std.proofs.lemmas.List.Folds.{Any-from_list_any, list_any-from_Any}
 use Rattle.std.proofs.lemmas.List.Kept.{AllPairs-filter}
 use Rattle.std.proofs.lemmas.List.Quantifiers.{all_pairs_push}
 use Rattle.mem_num.specs.declared.alloc_id.AllocId.{AllocId}
-use Rattle.mem_model.specs.declared.chunk.Chunk.{Chunk}
+use Rattle.mem_model.specs.declared.ledger.Ledger.{Ledger}
+use Rattle.mem_model.specs.Chunk.{Chunk, new_chunk}
+use Rattle.mem_model.specs.Ledgers.{AreInOrder}
 use Rattle.mem_model.specs.declared.tree_node.TreeNode.{TreeNode}
 use Rattle.mem_model.specs.TreeNode.{IsParentOf, HasParentUnlessRoot, IsAllocatorTree}
 use Rattle.mem_model.specs.TreeState.{TreeState, root_node, opened, is_open}
 use Rattle.mem_model.specs.Child.{most_nodes, child_node}
 use Rattle.mem_model.specs.Release.{without_chunk}
-use Rattle.mem_model.specs.LawfulState.{IsWithinBounds, IsLiveChunk, IsLawfulState}
+use Rattle.mem_model.specs.LawfulState.{IsWithinBounds, IsLawfulChunk, IsLawfulState}
 use Rattle.mem_model.proofs.OpenLemmas.{is_open_at, open_parts, same_id, Any-more}
+use Rattle.mem_model.proofs.ReferenceLemmas.{ledger-counted}
 
 -- a tree with its root alone is lawful
 pub opened_lawful : (limit : ℕ) → limit < 2 ^ 63 → IsLawfulState (opened limit)
@@ -28,14 +31,14 @@ opened_lawful limit limited =
       };
       nodes = All-cons (IsWithinBounds 1) root [] (record { given = omega arith; few = omega arith; reserves = omega arith; small = omega arith; limited = limited; root = λ _. refl }) (All-nil (IsWithinBounds 1));
       in_order = λ i j d lt within. absurd (omega arith);
-      chunks = All-nil (IsLiveChunk (opened limit));
+      chunks = All-nil (IsLawfulChunk (opened limit));
     }
 
--- a live chunk stays live where no number is taken back and its owner stays open
-pub live_after : (state after : TreeState) (chunk : Chunk) → IsLiveChunk state chunk → state.drawn ≤ after.drawn → is_open after chunk.owner.0 ≡ true → IsLiveChunk after chunk
-live_after state after chunk h drawn owner =
+-- a lawful chunk stays lawful where no number is taken back and whoever refers to it stays open
+pub lawful_after : (state after : TreeState) (chunk : Chunk) → IsLawfulChunk state chunk → state.drawn ≤ after.drawn → All (λ ledger. is_open after ledger.at.0 ≡ true) chunk.ledgers → IsLawfulChunk after chunk
+lawful_after state after chunk h drawn open_ =
     let given : chunk.number ≤ state.drawn = h.given in
-    record { some = h.some; given = omega arith; some_bytes = h.some_bytes; few_bytes = h.few_bytes; owner = owner }
+    record { some = h.some; given = omega arith; some_bytes = h.some_bytes; few_bytes = h.few_bytes; in_order = h.in_order; owner = h.owner; open_ = open_ }
 
 -- a chunk number is spent
 pub lawful-spend_chunk : (state : TreeState) → IsLawfulState state → IsLawfulState (record state { drawn = state.drawn + 1 })
@@ -43,31 +46,47 @@ lawful-spend_chunk state h = record {
   tree = h.tree;
   nodes = h.nodes;
   in_order = h.in_order;
-  chunks = λ k d within. live_after state (record state { drawn = state.drawn + 1 }) (get_or state.chunks k d) (h.chunks k d within) (omega arith) (h.chunks k d within).owner;
+  chunks = λ k d within. lawful_after state (record state { drawn = state.drawn + 1 }) (get_or state.chunks k d) (h.chunks k d within) (omega arith) (h.chunks k d within).open_;
+}
+
+-- one ledger with one reference is in order
+one_ledger : (at : AllocId) → AreInOrder (record { at = at; count = 1 } ∷ [])
+one_ledger at = record {
+  ordered = all_pairs_push (λ (before after : Ledger). before.at.0 < after.at.0) [] (record { at = at; count = 1 }) (λ i j d lt within. absurd (omega arith)) (λ k d within. absurd (omega arith));
+  counted = All-cons (λ (ledger : Ledger). 1 ≤ ledger.count) (record { at = at; count = 1 }) [] (omega arith) (All-nil (λ (ledger : Ledger). 1 ≤ ledger.count));
 }
 
 -- a chunk is made of the next number, for an open owner
-pub lawful-push_chunk : (state : TreeState) (chunk : Chunk) → IsLawfulState state → chunk.number ≡ state.drawn + 1 → 1 ≤ chunk.size → chunk.size ≤ 2 ^ 30 → is_open state chunk.owner.0 ≡ true
-    → IsLawfulState (record state { chunks = state.chunks ++ chunk ∷ []; drawn = state.drawn + 1 })
-lawful-push_chunk state chunk h number some few owner =
+pub lawful-push_chunk : (state : TreeState) (size : ℕ) (owner : AllocId) → IsLawfulState state → 1 ≤ size → size ≤ 2 ^ 30 → is_open state owner.0 ≡ true
+    → IsLawfulState (record state { chunks = state.chunks ++ new_chunk (state.drawn + 1) size owner ∷ []; drawn = state.drawn + 1 })
+lawful-push_chunk state size owner h some few open_ =
+    let chunk = new_chunk (state.drawn + 1) size owner in
     let after : TreeState = record state { chunks = state.chunks ++ chunk ∷ []; drawn = state.drawn + 1 } in
     record {
       tree = h.tree;
       nodes = h.nodes;
       in_order = all_pairs_push (λ (older newer : Chunk). older.number < newer.number) state.chunks chunk h.in_order
           (λ k d within. let given : (get_or state.chunks k d).number ≤ state.drawn = (h.chunks k d within).given in omega arith);
-      chunks = All-push (IsLiveChunk after) state.chunks chunk (λ k d within. live_after state after (get_or state.chunks k d) (h.chunks k d within) (omega arith) (h.chunks k d within).owner)
-          (record { some = omega arith; given = omega arith; some_bytes = some; few_bytes = few; owner = owner });
+      chunks = All-push (IsLawfulChunk after) state.chunks chunk (λ k d within. lawful_after state after (get_or state.chunks k d) (h.chunks k d within) (omega arith) (h.chunks k d within).open_)
+          (record {
+            some = omega arith;
+            given = omega arith;
+            some_bytes = some;
+            few_bytes = few;
+            in_order = one_ledger owner;
+            owner = ledger-counted chunk.ledgers 0 (record { at = owner; count = 0 }) (one_ledger owner).counted (omega arith);
+            open_ = All-cons (λ (ledger : Ledger). is_open after ledger.at.0 ≡ true) (record { at = owner; count = 1 }) [] open_ (All-nil (λ (ledger : Ledger). is_open after ledger.at.0 ≡ true));
+          });
     }
 
--- chunks that the reference's isn't stay
-pub lawful-release : (state : TreeState) (n : ℕ) → IsLawfulState state → IsLawfulState (record state { chunks = without_chunk n state.chunks })
-lawful-release state n h = record {
+-- the chunks but for one of them stay
+pub lawful-without_chunk : (state : TreeState) (n : ℕ) → IsLawfulState state → IsLawfulState (record state { chunks = without_chunk n state.chunks })
+lawful-without_chunk state n h = record {
   tree = h.tree;
   nodes = h.nodes;
   in_order = AllPairs-filter (λ (older newer : Chunk). older.number < newer.number) (λ (chunk : Chunk). not (chunk.number == n)) state.chunks h.in_order;
-  chunks = All-filter (λ (chunk : Chunk). not (chunk.number == n)) (IsLiveChunk (record state { chunks = without_chunk n state.chunks })) state.chunks
-      (λ k d within. live_after state (record state { chunks = without_chunk n state.chunks }) (get_or state.chunks k d) (h.chunks k d within) (omega arith) (h.chunks k d within).owner);
+  chunks = All-filter (λ (chunk : Chunk). not (chunk.number == n)) (IsLawfulChunk (record state { chunks = without_chunk n state.chunks })) state.chunks
+      (λ k d within. lawful_after state (record state { chunks = without_chunk n state.chunks }) (get_or state.chunks k d) (h.chunks k d within) (omega arith) (h.chunks k d within).open_);
 }
 
 -- a node within bounds stays so when a number more is given
@@ -80,7 +99,7 @@ lawful-spend_number state h = record {
   tree = h.tree;
   nodes = All-weaker (IsWithinBounds state.next) (IsWithinBounds (state.next + 1)) (bounds_later state.next) state.nodes h.nodes;
   in_order = h.in_order;
-  chunks = λ k d within. live_after state (record state { next = state.next + 1 }) (get_or state.chunks k d) (h.chunks k d within) (omega arith) (h.chunks k d within).owner;
+  chunks = λ k d within. lawful_after state (record state { next = state.next + 1 }) (get_or state.chunks k d) (h.chunks k d within) (omega arith) (h.chunks k d within).open_;
 }
 
 -- an open allocator is the parent of a younger node that names it
@@ -134,5 +153,6 @@ lawful-push_child state parent reservation limit h open_ room reserves small lim
       in_order = h.in_order;
       chunks = λ k d within.
           let chunk = get_or state.chunks k d in
-          live_after state after chunk (h.chunks k d within) (omega arith) (open_more state.nodes (child ∷ []) chunk.owner.0 (h.chunks k d within).owner);
+          lawful_after state after chunk (h.chunks k d within) (omega arith)
+          (λ i l in_. open_more state.nodes (child ∷ []) (get_or chunk.ledgers i l).at.0 ((h.chunks k d within).open_ i l in_));
     }

@@ -1,5 +1,8 @@
 -- The lemmas of this crate.
 pub mod ChargeLemmas
+pub mod LedgerOrderLemmas
+pub mod LedgerCountLemmas
+pub mod LedgerTotalLemmas
 pub mod HeldLemmas
 pub mod BalanceLemmas
 pub mod BoundLemmas
@@ -7,11 +10,19 @@ pub mod RequestLemmas
 pub mod TreeLemmas
 pub mod PeakLemmas
 pub mod OpenLemmas
+pub mod ReferenceLemmas
 pub mod LawfulLemmas
 pub mod LawfulBoundLemmas
 pub mod LawfulCloseLemmas
 pub mod LawfulCallLemmas
+pub mod LawfulReferenceLemmas
+pub mod ChargeSumLemmas
+pub mod ChunkSumLemmas
+pub mod ReferenceSumLemmas
+pub mod CallBalanceLemmas
+pub mod CallsLemmas
 pub mod PlainLemmas
 pub mod PlainCallLemmas
+pub mod PlainReferenceLemmas
 pub mod PathLemmas
 pub mod HeadroomLemmas

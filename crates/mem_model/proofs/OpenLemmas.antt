@@ -40,11 +40,11 @@ Any-map P Q f xs each h =
     (h.0, f h.1, omega (arith, h.2, length-map xs f), get_or-map f xs h.0 h.1 (f h.1) h.2 ∙ ap f h.3, each h.1 h.4)
 
 -- what holds at any two holds of the first with each later one
-pairs_head : {X : Type 0} (R : X → X → Type 0) (x : X) (xs : List X) → AllPairs R (x ∷ xs) → All (R x) xs
+pub pairs_head : {X : Type 0} (R : X → X → Type 0) (x : X) (xs : List X) → AllPairs R (x ∷ xs) → All (R x) xs
 pairs_head R x xs h k d within = h 0 (suc k) d (omega arith) (omega arith)
 
 -- what holds at any two holds behind the first
-pairs_tail : {X : Type 0} (R : X → X → Type 0) (x : X) (xs : List X) → AllPairs R (x ∷ xs) → AllPairs R xs
+pub pairs_tail : {X : Type 0} (R : X → X → Type 0) (x : X) (xs : List X) → AllPairs R (x ∷ xs) → AllPairs R xs
 pairs_tail R x xs h i j d lt within = h (suc i) (suc j) d (omega arith) (omega arith)
 
 -- what holds at any two, and of one before them with each, holds at any two of all

@@ -1,12 +1,10 @@
 -- What the calls of a tree are, by the cause that stands.
 use Rattle.std.proofs.Common.{◌≡◌, ℕ, ◌+◌, ◌<◌, ◌≤◌, true, false, not, nat_lt, nat_le, ◌==◌, [], sym, ap, ◌∙◌, arith, Ok, Err}
-use Rattle.std.specs.List.{list_any}
 use Rattle.std.proofs.lemmas.Bool.{cond-true, cond-false, lt-ltb, ltb-true, ltb-false, le-ltb, le-leb, lt-leb, eq-eqb, ne_eqb, not_from_true, not_from_false}
 use Rattle.mem_num.specs.Rounded.{rounded_size}
 use Rattle.mem_num.specs.declared.rounding.TheConstants.{LARGEST}
 use Rattle.mem_num.specs.declared.rounding.Rounding.TheVariants.{Power}
 use Rattle.mem_num.specs.declared.alloc_id.AllocId.{AllocId}
-use Rattle.mem_num.specs.declared.buffer_ref.Ref.{Ref}
 use Rattle.mem_num.specs.declared.buffer_refused.BufferRefused.TheVariants.{TooLarge as RefusedSize, Closed}
 use Rattle.mem_num.specs.declared.too_large.TooLarge.{TooLarge}
 use Rattle.mem_num.specs.declared.child_refused.ChildRefused.TheVariants.{ReserveAboveLimit, Nodes, Closed as ParentClosed}
@@ -15,7 +13,6 @@ use Rattle.mem_model.specs.TreeState.{TreeState, unchanged, closed_at, is_open, 
 use Rattle.mem_model.specs.Grant.{charge_result, grant_result}
 use Rattle.mem_model.specs.Child.{most_nodes, made_result, child_result}
 use Rattle.mem_model.specs.Close.{with_closed, close_result}
-use Rattle.mem_model.specs.Release.{refers_to, without_chunk, release_result}
 
 -- a request for a buffer of so many bytes, rounded
 module _ (state : TreeState) (at : AllocId) (request : ℕ) where
@@ -90,15 +87,3 @@ module _ (state : TreeState) (at : AllocId) where
   pub close-unused : is_open state at.0 ≡ true → uses_of state at.0 ≡ 0 → close_result state at ≡ record { answer = Ok tt; state = record state { nodes = with_closed at.0 state.nodes }; samples = [] }
   unfolding close_result
   close-unused open_ unused = cond-false (not (is_open state at.0)) _ _ (not_from_true (is_open state at.0) open_) ∙ cond-false (nat_lt 0 (uses_of state at.0)) _ _ (ap (nat_lt 0) unused)
-
--- giving a reference back
-module _ (state : TreeState) (of : Ref) where
-  -- that is counted
-  pub release-given : list_any (refers_to of) state.chunks ≡ true → release_result state of ≡ record { answer = Ok true; state = record state { chunks = without_chunk of.chunk state.chunks }; samples = [] }
-  unfolding release_result
-  release-given there = cond-true (list_any (refers_to of) state.chunks) _ _ there
-
-  -- that was given back before
-  pub release-nothing : list_any (refers_to of) state.chunks ≡ false → release_result state of ≡ unchanged state (Err (record { chunk = of.chunk; alloc = of.alloc }))
-  unfolding release_result
-  release-nothing gone = cond-false (list_any (refers_to of) state.chunks) _ _ gone

@@ -1,9 +1,9 @@
 -- Each step of the plain tree leaves it sound.
-use Rattle.std.proofs.Common.{◌≡◌, ℕ, ◌+◌, ◌<◌, ◌≤◌, ◌^◌, List, [], ◌∷◌, ◌++◌, refl, sym, ap, subst, ◌∙◌, arith, All, append-nil}
+use Rattle.std.proofs.Common.{◌≡◌, ℕ, ◌+◌, ◌<◌, ◌≤◌, ◌^◌, List, [], ◌∷◌, ◌++◌, sym, ap, subst, ◌∙◌, arith, All, append-nil}
 use Rattle.std.proofs.lemmas.List.Elements.{All-push}
 use Rattle.mem_num.specs.declared.alloc_id.AllocId.{AllocId}
 use Rattle.mem_model.specs.declared.charge.Charge.{Charge}
-use Rattle.mem_model.specs.declared.chunk.Chunk.{Chunk}
+use Rattle.mem_model.specs.Chunk.{Chunk, new_chunk}
 use Rattle.mem_model.specs.declared.tree_node.TreeNode.{TreeNode}
 use Rattle.mem_model.specs.Bound.{all_of}
 use Rattle.mem_model.specs.TreeNode.{IsAllocatorTree}
@@ -11,10 +11,9 @@ use Rattle.mem_model.specs.PeakSample.{PeakSample, IsSound, request_sample}
 use Rattle.mem_model.specs.TreeState.{TreeState, CallResult, unchanged, charges_in, uses_of}
 use Rattle.mem_model.specs.Child.{child_node}
 use Rattle.mem_model.specs.Close.{with_closed}
-use Rattle.mem_model.specs.Release.{without_chunk}
 use Rattle.mem_model.specs.LawfulState.{IsLawfulState}
-use Rattle.mem_model.specs.PlainTree.{SampledTree, Answers, IsSoundTree, IsChargeable, IsNewChild}
-use Rattle.mem_model.proofs.LawfulLemmas.{lawful-spend_chunk, lawful-push_chunk, lawful-release, lawful-spend_number, lawful-push_child}
+use Rattle.mem_model.specs.PlainTree.{SampledTree, Answers, HasFewReferences, IsSoundTree, IsChargeable, IsNewChild}
+use Rattle.mem_model.proofs.LawfulLemmas.{lawful-spend_chunk, lawful-push_chunk, lawful-spend_number, lawful-push_child}
 use Rattle.mem_model.proofs.LawfulCloseLemmas.{lawful-close}
 use Rattle.mem_model.proofs.LawfulBoundLemmas.{all_of-lawful, all_of-trial}
 
@@ -56,17 +55,36 @@ sound-spend_chunk tree sample samples h room sound is = record {
   lawful = lawful-spend_chunk tree.state h.lawful;
   drawn = omega arith;
   samples = samples-push tree.samples samples sample h.samples sound is;
+  references = h.references;
 }
+
+-- what is pushed to a copy
+pub chunks-pushed : (chunks copies pushed : List Chunk) (chunk made : Chunk) → pushed ≡ copies ++ chunk ∷ [] → copies ≡ chunks → chunk ≡ made → pushed ≡ chunks ++ made ∷ []
+chunks-pushed chunks copies pushed chunk made is same new = cc
+
+-- the moment of a forced charge is measured
+pub sound-measure : (tree : SampledTree) (sample : PeakSample) (samples : List PeakSample) → IsSoundTree tree → IsSound sample → samples ≡ tree.samples ++ sample ∷ [] → IsSoundTree (record tree { samples = samples })
+sound-measure tree sample samples h sound is = record {
+  lawful = h.lawful;
+  drawn = h.drawn;
+  samples = samples-push tree.samples samples sample h.samples sound is;
+  references = h.references;
+}
+
+-- other chunks stand there
+pub sound-chunks : (tree : SampledTree) (chunks : List Chunk) → IsSoundTree tree → IsLawfulState (record tree.state { chunks = chunks }) → All HasFewReferences chunks → IsSoundTree (record tree { state = record tree.state { chunks = chunks } })
+sound-chunks tree chunks h lawful few = record { lawful = lawful; drawn = h.drawn; samples = h.samples; references = few }
 
 -- a chunk is made
 pub sound-push_chunk : (tree : SampledTree) (request : Charge) (sample : PeakSample) (chunks : List Chunk) (samples : List PeakSample) → IsSoundTree tree → tree.state.drawn < 4294967295 → IsChargeable tree.state request → IsSound sample
-    → chunks ≡ tree.state.chunks ++ record { number = tree.state.drawn + 1; size = request.amount; owner = request.at } ∷ [] → samples ≡ tree.samples ++ sample ∷ []
+    → chunks ≡ tree.state.chunks ++ new_chunk (tree.state.drawn + 1) request.amount request.at ∷ [] → samples ≡ tree.samples ++ sample ∷ []
     → IsSoundTree (record { state = record tree.state { chunks = chunks; drawn = tree.state.drawn + 1 }; samples = samples })
 sound-push_chunk tree request sample chunks samples h room can sound made is = record {
   lawful = subst (λ (cs : List Chunk). IsLawfulState (record tree.state { chunks = cs; drawn = tree.state.drawn + 1 })) (sym made)
-      (lawful-push_chunk tree.state (record { number = tree.state.drawn + 1; size = request.amount; owner = request.at }) h.lawful refl can.some can.few can.open_);
+      (lawful-push_chunk tree.state request.amount request.at h.lawful can.some can.few can.open_);
   drawn = omega arith;
   samples = samples-push tree.samples samples sample h.samples sound is;
+  references = subst (All HasFewReferences) (sym made) (All-push HasFewReferences tree.state.chunks (new_chunk (tree.state.drawn + 1) request.amount request.at) h.references (omega arith));
 }
 
 -- an allocator's number is spent for a reservation that was refused
@@ -76,11 +94,12 @@ sound-spend_number tree sample samples h sound is = record {
   lawful = lawful-spend_number tree.state h.lawful;
   drawn = h.drawn;
   samples = samples-push tree.samples samples sample h.samples sound is;
+  references = h.references;
 }
 
 -- and one past the last that an allocator may have
 pub sound-past_nodes : (tree : SampledTree) → IsSoundTree tree → IsSoundTree (record tree { state = record tree.state { next = tree.state.next + 1 } })
-sound-past_nodes tree h = record { lawful = lawful-spend_number tree.state h.lawful; drawn = h.drawn; samples = h.samples }
+sound-past_nodes tree h = record { lawful = lawful-spend_number tree.state h.lawful; drawn = h.drawn; samples = h.samples; references = h.references }
 
 -- a child is made
 pub sound-push_child : (tree : SampledTree) (parent : AllocId) (reservation limit : ℕ) (sample : PeakSample) (nodes : List TreeNode) (samples : List PeakSample) → IsSoundTree tree → IsNewChild tree.state parent reservation limit → IsSound sample
@@ -91,6 +110,7 @@ sound-push_child tree parent reservation limit sample nodes samples h can sound 
       (lawful-push_child tree.state parent reservation limit h.lawful can.open_ can.room can.reserves can.small can.limited);
   drawn = h.drawn;
   samples = samples-push tree.samples samples sample h.samples sound is;
+  references = h.references;
 }
 
 -- an allocator is closed
@@ -100,15 +120,7 @@ sound-close tree n nodes h unused made = record {
   lawful = subst (λ (ns : List TreeNode). IsLawfulState (record tree.state { nodes = ns })) (sym made) (lawful-close tree.state n h.lawful unused);
   drawn = h.drawn;
   samples = h.samples;
-}
-
--- a chunk goes
-pub sound-release : (tree : SampledTree) (n : ℕ) (chunks : List Chunk) → IsSoundTree tree → chunks ≡ without_chunk n tree.state.chunks
-    → IsSoundTree (record tree { state = record tree.state { chunks = chunks } })
-sound-release tree n chunks h made = record {
-  lawful = subst (λ (cs : List Chunk). IsLawfulState (record tree.state { chunks = cs })) (sym made) (lawful-release tree.state n h.lawful);
-  drawn = h.drawn;
-  samples = h.samples;
+  references = h.references;
 }
 
 -- a call that changed nothing

@@ -8,6 +8,7 @@ use Rattle.mem_num.specs.declared.buffer_ref.Ref.{Ref}
 use Rattle.mem_num.specs.declared.buffer_refused.BufferRefused.{BufferRefused}
 use Rattle.mem_num.specs.declared.buffer_refused.BufferRefused.TheVariants.{TooLarge, Closed, Full}
 use Rattle.mem_model.specs.declared.charge.Charge.{Charge}
+use Rattle.mem_model.specs.Chunk.{new_chunk}
 use Rattle.mem_model.specs.declared.tree_node.TreeNode.{TreeNode}
 use Rattle.mem_model.specs.Request.{refusing_level, refusal_of}
 use Rattle.mem_model.specs.PeakSample.{request_sample}
@@ -21,7 +22,7 @@ charge_answer state request (Some level) = Err (Full (refusal_of state.nodes (ch
 -- a charge makes a chunk; a refused one has spent its number
 abbrev pub after_charge : TreeState → Charge → Option TreeNode → TreeState
 after_charge state request None =
-    record state { chunks = state.chunks ++ record { number = state.drawn + 1; size = request.amount; owner = request.at } ∷ []; drawn = state.drawn + 1 }
+    record state { chunks = state.chunks ++ new_chunk (state.drawn + 1) request.amount request.at ∷ []; drawn = state.drawn + 1 }
 after_charge state request (Some level) = record state { drawn = state.drawn + 1 }
 
 abbrev pub charge_result : TreeState → Charge → CallResult (Result Ref BufferRefused)

@@ -1,11 +1,15 @@
 -- What the plain tree of one thread shows: its state, and every moment at which peaks were measured.
-use Rattle.std.specs.Prelude.{◌≡◌, ℕ, ◌<◌, ◌≤◌, ◌^◌, true, List, [], ◌++◌, All}
+use Rattle.std.specs.Prelude.{◌≡◌, ℕ, ◌<◌, ◌≤◌, ◌^◌, true, List, [], ◌++◌, All, Some}
 use Rattle.mem_num.specs.declared.alloc_id.AllocId.{AllocId}
+use Rattle.mem_num.specs.declared.buffer_ref.Ref.{Ref}
 use Rattle.mem_model.specs.declared.charge.Charge.{Charge}
 use Rattle.mem_model.specs.PeakSample.{PeakSample, IsSound}
+use Rattle.mem_model.specs.Chunk.{Chunk}
+use Rattle.mem_model.specs.Ledgers.{count_of, total_of}
+use Rattle.mem_model.specs.References.{referred_chunk}
 use Rattle.mem_model.specs.TreeState.{TreeState, CallResult, opened, is_open}
 use Rattle.mem_model.specs.Child.{most_nodes}
-use Rattle.mem_model.specs.LawfulState.{IsLawfulState}
+use Rattle.mem_model.specs.LawfulState.{IsLawfulChunk, IsLawfulState}
 
 -- a tree, and the moments at which its peaks were measured, the oldest first
 pub record SampledTree : Type 0 where
@@ -22,11 +26,23 @@ pub record Answers {A : Type 0} (call : CallResult A) (old new : SampledTree) (t
   pub state : new.state ≡ call.state
   pub samples : new.samples ≡ old.samples ++ call.samples
 
--- what holds of every plain tree: chunk numbers have 32 bits, and no number of a sample wraps
+-- 32 bits hold how many references a chunk has
+abbrev pub HasFewReferences : Chunk → Type 0
+HasFewReferences chunk = total_of chunk.ledgers < 2 ^ 32
+
+-- what holds of every plain tree: 32 bits hold chunk numbers and how many references a chunk has, and no number of a sample wraps
 pub record IsSoundTree (tree : SampledTree) : Type 0 where
   pub lawful : IsLawfulState tree.state
   pub drawn : tree.state.drawn < 2 ^ 32
   pub samples : All IsSound tree.samples
+  pub references : All HasFewReferences tree.state.chunks
+
+-- the chunk of a reference that wasn't given back
+pub record IsReferred (state : TreeState) (of : Ref) (chunk : Chunk) : Type 0 where
+  pub is : referred_chunk state of ≡ Some chunk
+  pub lawful : IsLawfulChunk state chunk
+  pub some : 1 ≤ count_of chunk.ledgers of.alloc.0
+  pub few : HasFewReferences chunk
 
 -- a charge that can become a chunk, if no limit stops it
 pub record IsChargeable (state : TreeState) (request : Charge) : Type 0 where

@@ -3,10 +3,9 @@ use Rattle.std.specs.Prelude.{ℕ, ◌+◌, ◌==◌, Bool, false, not, ◌&&◌
 use Rattle.std.specs.List.{list_any}
 use Rattle.mem_num.specs.declared.alloc_id.AllocId.{AllocId}
 use Rattle.mem_num.specs.declared.closed.Closed.{Closed}
-use Rattle.mem_model.specs.declared.chunk.Chunk.{Chunk}
 use Rattle.mem_model.specs.declared.tree_node.TreeNode.{TreeNode}
 use Rattle.mem_model.specs.declared.charge.Charge.{Charge}
-use Rattle.mem_model.specs.Chunk.{charges_of}
+use Rattle.mem_model.specs.Chunk.{Chunk, charges_of, has_ledger}
 use Rattle.mem_model.specs.Held.{held_of}
 use Rattle.mem_model.specs.TreeNode.{is_open_child}
 use Rattle.mem_model.specs.PeakSample.{PeakSample}
@@ -50,7 +49,7 @@ held_at state n = held_of state.nodes (charges_in state) n
 
 -- how many chunks the allocator n has a ledger on
 abbrev pub ledgers_of : TreeState → ℕ → ℕ
-ledgers_of state n = count_by (λ chunk. chunk.owner.0 == n) state.chunks
+ledgers_of state n = count_by (has_ledger n) state.chunks
 
 -- how many open children the allocator n has
 abbrev pub children_of : TreeState → ℕ → ℕ

@@ -13,6 +13,8 @@ ghost use Rattle.mem_model.specs.LawfulState.{IsLawfulState};
 ghost use Rattle.mem_model.specs.MeasuredTree.{raised_peaks};
 ghost use Rattle.mem_model.specs.PeakSample.{PeakSample, peak_of};
 ghost use Rattle.mem_model.specs.Release.{release_result};
+ghost use Rattle.mem_model.specs.Retain.{retain_result};
+ghost use Rattle.mem_model.specs.Transfer.{transfer_result};
 ghost use Rattle.mem_model.specs.TreeState.{TreeState, opened, charges_in, is_open, uses_of};
 
 /// A tree opens in a lawful state.
@@ -30,6 +32,10 @@ pub fn each_call_keeps_the_law()
         IsLawfulState (child_result state parent reservation limit).state }
     ensures close { (state : TreeState) (at : AllocId) →
         IsLawfulState state → IsLawfulState (close_result state at).state }
+    ensures retain { (state : TreeState) (of : Ref) (target : AllocId) →
+        IsLawfulState state → IsLawfulState (retain_result state of target).state }
+    ensures transfer { (state : TreeState) (of : Ref) (target : AllocId) →
+        IsLawfulState state → IsLawfulState (transfer_result state of target).state }
     ensures release { (state : TreeState) (of : Ref) →
         IsLawfulState state → IsLawfulState (release_result state of).state }
 {}

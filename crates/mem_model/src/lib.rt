@@ -4,11 +4,14 @@
 
 mod balance;
 mod bound;
+mod calls;
 mod charge;
 mod chunk;
 mod headroom;
 mod held;
 mod laws;
+mod ledger;
+mod ledgers;
 mod peak_sample;
 mod plain_tree;
 mod request;
@@ -22,6 +25,11 @@ pub use balance::{
     a_rise_passes_on_what_is_beyond_the_reservation, numbers_that_balance_are_held,
 };
 pub use bound::fits;
+pub use calls::{
+    allocators_are_charged_the_live_chunks, calls_that_give_all_back_leave_an_empty_tree,
+    each_live_chunk_is_charged_to_one_allocator, references_balance,
+    states_that_calls_reach_are_lawful,
+};
 pub use charge::{Charge, charged_at};
 pub use chunk::{Chunk, charges_of};
 pub use headroom::{
@@ -33,8 +41,10 @@ pub use laws::{
     closed_allocator_has_no_uses, each_call_keeps_the_law, numbers_stay_small,
     opened_tree_is_lawful, samples_raise_peaks,
 };
+pub use ledger::Ledger;
+pub use ledgers::{count_of, total_of, with_count};
 pub use peak_sample::{PeakSample, peak_of};
 pub use plain_tree::PlainTree;
 pub use request::{is_past_limit, levels_of, refusal_of, refusing_level};
-pub use sample::request_sample;
+pub use sample::{force_sample, request_sample};
 pub use tree_node::{TreeNode, is_allocator_tree};

@@ -1,18 +1,22 @@
 //! The tree of one thread as its definition, slow: each call computes by the definitions alone, and keeps no held number and
 //! no peak.
-ghost use Rattle.std.specs.Prelude.{◌≡◌, ◌<◌, ◌≤◌, ◌^◌, ◌↔◌, IsTrue, IfOk};
+ghost use Rattle.std.specs.Prelude.{◌≡◌, [], ◌∷◌, ◌++◌, ◌<◌, ◌≤◌, ◌^◌, ◌↔◌, All, IsTrue, IfOk, OnOk, OnErr};
 ghost use Rattle.mem_model.specs.Request as trial;
 ghost use Rattle.mem_model.specs.PeakSample.{IsSound, request_sample};
 ghost use Rattle.mem_model.specs.TreeState as tree;
-ghost use Rattle.mem_model.specs.PlainTree.{opened_sampled};
+ghost use Rattle.mem_model.specs.PlainTree.{HasFewReferences, opened_sampled};
+ghost use Rattle.mem_model.specs.LawfulState.{IsLawfulState};
+ghost use Rattle.mem_model.specs.References.{HasRoomFor};
+ghost use Rattle.mem_model.specs.Force as spec_of_force;
 
 use crate::charge::Charge;
 use crate::chunk::{Chunk, charges_of};
+use crate::ledgers::total_of;
 use crate::peak_sample::PeakSample;
 use crate::request::{refusal_of, refusing_level};
-use crate::sample::request_sample;
+use crate::sample::{force_sample, request_sample};
 use crate::tree_node::TreeNode;
-use mem_num::{AllocId, Full};
+use mem_num::{AllocId, Full, Ref};
 use std::alloc::{AllocError, Global};
 use std::marker::Model;
 
@@ -21,9 +25,12 @@ mod close;
 mod grant;
 mod headroom;
 mod node;
+mod references;
 mod release;
+mod retain;
 #[cfg(test)]
 mod tests;
+mod transfer;
 
 /// A tree of one thread. After Arrow Java's `RootAllocator`, which keeps the numbers that are summed here.
 #[derive(Drop)]
@@ -90,6 +97,16 @@ impl PlainTree {
         self.next < u32::MAX
     }
 
+    /// Whether the chunk of a reference can have one more, as `retain` and `transfer` ask.
+    pub fn has_room_for(&self, of: Ref) -> bool
+        ensures { IsTrue result ↔ HasRoomFor self.now.state of }
+    {
+        match self.numbered_chunk(of.chunk) {
+            Some(chunk) => total_of(&chunk.ledgers) < u64::from(u32::MAX),
+            None => true,
+        }
+    }
+
     fn is_open(&self, at: AllocId) -> bool
         ensures { result ≡ tree.is_open self.now.state at.0 }
     {
@@ -134,10 +151,46 @@ impl PlainTree {
         request_sample(alloc, &self.nodes, &charges, request)
     }
 
+    // Whether no level is past its limit with a forced charge.
+    fn is_within_limits(&self, alloc: Global, force: Charge) -> Result<bool, AllocError>
+        requires small { force.amount ≤ 2 ^ 40 }
+        ensures { IfOk result (λ fits. fits ≡ spec_of_force.is_within_limits self.now.state force) }
+    {
+        let refusing = self.refusing(alloc, force)?;
+        Ok(refusing.is_none())
+    }
+
+    // Measures the moment of a forced charge.
+    fn measure_force(&mut self, alloc: Global, force: Charge) -> Result<(), AllocError>
+        requires small { force.amount ≤ 2 ^ 40 }
+        ensures ok { OnOk result (self.new ≡ record self.old {
+          samples = self.old.samples ++ spec_of_force.force_sample self.old.state force ∷ [];
+        }) }
+        ensures err { OnErr result (self.new ≡ self.old) }
+    {
+        let charges = self.charges(alloc)?;
+        let sample = force_sample(alloc, &self.nodes, &charges, force)?;
+        self.samples.push(sample)?;
+        Ok(())
+    }
+
+    // Other chunks stand in the place of those that are there.
+    fn put_chunks(&mut self, chunks: Vec<Chunk>)
+        requires lawful { IsLawfulState (record self.old.state { chunks = chunks.items }) }
+        requires references { All HasFewReferences chunks.items }
+        ensures { self.new ≡ record self.old { state = record self.old.state { chunks = chunks.items } } }
+    {
+        self.chunks = chunks;
+    }
+
     fn uses(&self, at: AllocId) -> u64
         ensures { result ≡ tree.uses_of self.now.state at.0 }
     {
-        let ledgers = self.chunks.iter().filter(|chunk| chunk.owner == at).count();
+        let ledgers = self
+            .chunks
+            .iter()
+            .filter(|chunk| chunk.has_ledger(at))
+            .count();
         let children = self
             .nodes
             .iter()

@@ -2,6 +2,7 @@
 ghost use Rattle.std.specs.Prelude.{◌≡◌, ◌∷◌, ◌^◌, ◌<◌, nat_lt, map, filter, IfOk};
 ghost use Rattle.mem_model.specs.TreeNode.{IsAllocatorTree};
 ghost use Rattle.mem_model.specs.Bound.{all_of};
+ghost use Rattle.mem_model.specs.Force.{force_sample_of};
 ghost use Rattle.mem_model.specs.PeakSample as spec;
 
 use crate::charge::Charge;
@@ -45,6 +46,24 @@ fn numbers_of(alloc: Global, levels: &[TreeNode]) -> Result<Vec<AllocId>, AllocE
     ensures { IfOk result (λ numbers. numbers.items ≡ map (λ level. level.number) levels.now) }
 {
     levels.iter().map(|level| level.number).collect(alloc)
+}
+
+/// The sample of a forced charge: its moment, with the charge besides, counts for all its levels.
+pub fn force_sample(
+    alloc: Global,
+    nodes: &[TreeNode],
+    charges: &[Charge],
+    force: Charge,
+) -> Result<PeakSample, AllocError>
+    requires tree { IsAllocatorTree nodes.now }
+    requires fits { all_of nodes.now (force ∷ charges.now) < 2 ^ 64 }
+    ensures sample { IfOk result (λ sample. sample ≡ force_sample_of nodes.now charges.now force) }
+    ensures sound { IfOk result spec.IsSound }
+{
+    let levels = levels_of(alloc, nodes, charges, force)?;
+    let counts = numbers_of(alloc, &levels)?;
+    let charged = with_request(alloc, charges, force)?;
+    Ok(PeakSample::new(Vec::from_slice(alloc, nodes)?, charged, counts))
 }
 
 /// The sample of a request: its moment, with its charge on trial, counts for its levels, or for those below the level that

@@ -195,13 +195,13 @@ fn a_peak_is_the_greatest_of_the_samples_that_count(rt: HostRuntime) -> Result<(
 
 #[test]
 fn a_chunk_is_charged_to_its_owner(rt: HostRuntime) -> Result<(), Fail> {
-    let chunk = |number, size, owner| Chunk {
-        number,
-        size,
-        owner,
-    };
-    let chunks = [chunk(1, 1_024, A), chunk(2, 2, B), chunk(4, 16, A)];
-    let charges = charges_of(rt.alloc(), &chunks)?;
+    let alloc = rt.alloc();
+    let chunks = [
+        Chunk::new(alloc, 1, 1_024, A)?,
+        Chunk::new(alloc, 2, 2, B)?,
+        Chunk::new(alloc, 4, 16, A)?,
+    ];
+    let charges = charges_of(alloc, &chunks)?;
     assert!(rt; fits(&[], &charges));
     assert_eq!(rt;
         charges.as_slice(),

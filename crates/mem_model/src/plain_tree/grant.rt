@@ -6,19 +6,11 @@ ghost use Rattle.mem_model.specs.PlainTree.{Answers, IsChargeable};
 
 use super::PlainTree;
 use crate::charge::Charge;
-use crate::chunk::Chunk;
+use crate::chunk::{Chunk, copies_of};
 use crate::peak_sample::PeakSample;
 use crate::tree_node::TreeNode;
 use mem_num::{AllocId, BufferRefused, Closed, Ref, Rounding, rounded};
 use std::alloc::{AllocError, Global};
-
-fn with_chunk(alloc: Global, chunks: &[Chunk], chunk: Chunk) -> Result<Vec<Chunk>, AllocError>
-    ensures { IfOk result (λ more. more.items ≡ chunks.now ++ chunk ∷ []) }
-{
-    let mut more = Vec::from_slice(alloc, chunks)?;
-    more.push(chunk)?;
-    Ok(more)
-}
 
 impl PlainTree {
     // A chunk of the next number is made for a request.
@@ -38,12 +30,8 @@ impl PlainTree {
         ensures err { OnErr result (self.new ≡ self.old) }
     {
         let number = self.drawn + 1;
-        let chunk = Chunk {
-            number,
-            size: request.amount,
-            owner: request.at,
-        };
-        let chunks = with_chunk(alloc, &self.chunks, chunk)?;
+        let mut chunks = copies_of(alloc, &self.chunks)?;
+        chunks.push(Chunk::new(alloc, number, request.amount, request.at)?)?;
         self.samples.push(sample)?;
         self.chunks = chunks;
         self.drawn = number;

@@ -5,6 +5,8 @@ use mem_num::{BufferRefused, ChildRefused, Closed, NotClosed, Ref, Released, Too
 use std::process::Abort;
 use std::test::Fail;
 
+mod references;
+
 /// No limit but that of the type.
 const UNLIMITED: u64 = 9_223_372_036_854_775_807;
 

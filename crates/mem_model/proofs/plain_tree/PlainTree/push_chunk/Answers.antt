@@ -1,9 +1,11 @@
+use Rattle.std.proofs.Common.{◌∙◌}
 use Rattle.mem_model.specs.PlainFields.{sampled_tree}
-use Rattle.mem_model.proofs.PlainLemmas.{sound-push_chunk}
+use Rattle.mem_model.proofs.PlainLemmas.{chunks-pushed, sound-push_chunk}
 use Rattle.mem_model.proofs.plain_tree.PlainTree.push_chunk.Goals as goal
 
 pub invariant_of-self-2 : goal.invariant_of-self-2
 invariant_of-self-2 c =
     let room = rw (← c.self.view_is) at c.requires.room in
     let chargeable = rw (← c.self.view_is) at c.requires.chargeable in
-    sound-push_chunk (sampled_tree c.self.inside) c.args.request c.args.sample _ c.push.new.self.items c.self.invariant room chargeable c.requires.sound (rw c.deref.ensures.value at c.in_ok-chunks.ensures) c.in_ok-push.ensures.items
+    sound-push_chunk (sampled_tree c.self.inside) c.args.request c.args.sample c.push.new.self.items c.push-2.new.self.items c.self.invariant room chargeable c.requires.sound
+    (chunks-pushed _ _ _ _ _ c.in_ok-push.ensures.items (c.in_ok-chunks.ensures ∙ c.deref.ensures.value) c.in_ok-new.ensures) c.in_ok-push-2.ensures.items

@@ -1,0 +1,105 @@
+-- Lists of calls on a tree: the state that they leave, and the references that they give and give back.
+use Rattle.std.specs.Prelude.{◌≡◌, ◌≢◌, ℕ, ◌+◌, ◌<◌, ◌≤◌, ◌^◌, ◌==◌, true, false, List, [], ◌∷◌, All, sum_by, if◌then◌else◌, is_ok, Result, Ok, Err, ⊤}
+use Rattle.mem_num.specs.declared.alloc_id.AllocId.{AllocId}
+use Rattle.mem_num.specs.declared.buffer_ref.Ref.{Ref}
+use Rattle.mem_num.specs.declared.buffer_refused.BufferRefused.{BufferRefused}
+use Rattle.mem_model.specs.Charge.{charged_at}
+use Rattle.mem_model.specs.Chunk.{Chunk, charges_of}
+use Rattle.mem_model.specs.Ledgers.{count_of, total_of}
+use Rattle.mem_model.specs.TreeState.{TreeState, is_open, held_at, uses_of}
+use Rattle.mem_model.specs.Grant.{grant_result}
+use Rattle.mem_model.specs.Child.{child_result}
+use Rattle.mem_model.specs.Close.{close_result}
+use Rattle.mem_model.specs.Retain.{retain_result}
+use Rattle.mem_model.specs.Transfer.{transfer_result}
+use Rattle.mem_model.specs.Release.{release_result}
+
+-- a call on a tree, with its arguments
+pub data TreeCall : Type 0 where
+  Child : (parent : AllocId) → (reservation limit : ℕ) → TreeCall
+  Close : (at : AllocId) → TreeCall
+  Grant : (at : AllocId) → (request : ℕ) → TreeCall
+  Retain : (of : Ref) → (target : AllocId) → TreeCall
+  Transfer : (of : Ref) → (target : AllocId) → TreeCall
+  Release : (of : Ref) → TreeCall
+
+-- the state that a call leaves, whatever it answers
+abbrev pub after_call : TreeState → TreeCall → TreeState
+after_call state (Child parent reservation limit) = (child_result state parent reservation limit).state
+after_call state (Close at) = (close_result state at).state
+after_call state (Grant at request) = (grant_result state at request).state
+after_call state (Retain of target) = (retain_result state of target).state
+after_call state (Transfer of target) = (transfer_result state of target).state
+after_call state (Release of) = (release_result state of).state
+
+-- the state that the calls leave, one after the other
+abbrev pub state_after : TreeState → List TreeCall → TreeState
+state_after state [] = state
+state_after state (call ∷ calls) = state_after (after_call state call) calls
+
+-- a call whose own numbers are within bounds: a child reserves at most 2^40 bytes, and its limit is below 2^63
+abbrev pub IsBoundedCall : TreeCall → Type 0
+IsBoundedCall (Child parent reservation limit) = (reservation ≤ 2 ^ 40) × (limit < 2 ^ 63)
+IsBoundedCall _ = ⊤
+
+abbrev pub AreBoundedCalls : List TreeCall → Type 0
+AreBoundedCalls calls = All IsBoundedCall calls
+
+-- one reference where a call answers Ok
+abbrev pub one_if_ok : {A E : Type 0} → Result A E → ℕ
+one_if_ok answer = if is_ok answer then 1 else 0
+
+-- one reference where a buffer is granted; that of 0 bytes is to no chunk
+abbrev pub granted_by : Result Ref BufferRefused → ℕ
+granted_by (Ok reference) = if reference.size == 0 then 0 else 1
+granted_by (Err refused) = 0
+
+-- how many references a call gives
+abbrev pub given_by : TreeState → TreeCall → ℕ
+given_by state (Grant at request) = granted_by (grant_result state at request).answer
+given_by state (Retain of target) = one_if_ok (retain_result state of target).answer
+given_by state (Transfer of target) = one_if_ok (transfer_result state of target).answer
+given_by state _ = 0
+
+-- how many references a call gives back
+abbrev pub returned_by : TreeState → TreeCall → ℕ
+returned_by state (Release of) = one_if_ok (release_result state of).answer
+returned_by state _ = 0
+
+-- a number that each call has at the state that the earlier ones left, summed over the calls
+abbrev pub sum_over : (TreeState → TreeCall → ℕ) → TreeState → List TreeCall → ℕ
+sum_over number state [] = 0
+sum_over number state (call ∷ calls) = number state call + sum_over number (after_call state call) calls
+
+-- how many references the calls give
+abbrev pub references_given : TreeState → List TreeCall → ℕ
+references_given state calls = sum_over given_by state calls
+
+-- how many references the calls give back
+abbrev pub references_returned : TreeState → List TreeCall → ℕ
+references_returned state calls = sum_over returned_by state calls
+
+-- how many references there are, to all live chunks
+abbrev pub references_in : TreeState → ℕ
+references_in state = sum_by (λ chunk. total_of chunk.ledgers) state.chunks
+
+-- what the allocator n is charged for a chunk
+abbrev pub charged_for : Chunk → ℕ → ℕ
+charged_for chunk n = charged_at (charges_of (chunk ∷ [])) n
+
+-- a chunk is charged to one allocator, its owner, which is open and refers to it; to every other it is charged nothing
+pub record IsChargedOnce (state : TreeState) (chunk : Chunk) : Type 0 where
+  pub open_ : is_open state chunk.owner.0 ≡ true
+  pub refers : 1 ≤ count_of chunk.ledgers chunk.owner.0
+  pub charged : charged_for chunk chunk.owner.0 ≡ chunk.size
+  pub others : (n : ℕ) → n ≢ chunk.owner.0 → charged_for chunk n ≡ 0
+
+-- no allocator is open but the root
+abbrev pub HasRootAlone : TreeState → Type 0
+HasRootAlone state = (n : ℕ) → n ≢ 0 → is_open state n ≡ false
+
+-- no chunk is live, and the root holds nothing and has no use
+pub record IsEmptyTree (state : TreeState) : Type 0 where
+  pub chunks : state.chunks ≡ []
+  pub held : held_at state 0 ≡ 0
+  pub uses : uses_of state 0 ≡ 0
