@@ -1,5 +1,3 @@
 -- The lemmas of this crate.
-pub mod OrderLemmas
-pub mod CountLemmas
 pub mod ReleaseLemmas
 pub mod RetainLemmas

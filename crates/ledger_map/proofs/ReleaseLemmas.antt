@@ -3,13 +3,14 @@ use Rattle.std.proofs.Common.{◌≡◌, ◌≢◌, ℕ, ◌-◌, ◌≤◌, ◌
 use Rattle.std.proofs.lemmas.Bool.{cond-true, cond-false, lt-ltb, le-ltb, eq-eqb, ne_eqb, cases_eq, cases_lt}
 use Rattle.mem_num.specs.Least.{IsLeast}
 use Rattle.mem_num.specs.declared.alloc_id.AllocId.{AllocId}
-use Rattle.ledger_map.specs.declared.ledger.Ledger.{Ledger}
+use Rattle.mem_model.specs.declared.ledger.Ledger.{Ledger}
 use Rattle.ledger_map.specs.declared.after.After.{After}
 use Rattle.ledger_map.specs.declared.after.After.TheVariants.{Same, Gone, Moved, Freed}
-use Rattle.ledger_map.specs.Ledgers.{LedgerState, count_of, with_count, AreInOrder, IsLawful, TakesOne, KeepsPlaces}
+use Rattle.mem_model.specs.Ledgers.{count_of, with_count, AreInOrder}
+use Rattle.ledger_map.specs.LedgerState.{LedgerState, IsLawful, TakesOne, KeepsPlaces}
 use Rattle.ledger_map.specs.Release.{new_owner, after_of, IsAfter}
-use Rattle.ledger_map.proofs.OrderLemmas.{here, above, IsHere, IsAbove}
-use Rattle.ledger_map.proofs.CountLemmas.{count_of-with_count, count_of-with_count_other, total_of-with_count, AreInOrder-with_count, ChangesCount-with_count}
+use Rattle.mem_model.proofs.LedgerOrderLemmas.{here, above, IsHere, IsAbove}
+use Rattle.mem_model.proofs.LedgerCountLemmas.{count_of-with_count, count_of-with_count_other, total_of-with_count, AreInOrder-with_count, ChangesCount-with_count}
 
 -- the first of the ledgers has the least number of all that have a count
 first-least : (x : Ledger) (xs : List Ledger) → AreInOrder (x ∷ xs) → IsLeast (λ m. 1 ≤ count_of (x ∷ xs) m) x.at.0

@@ -1,9 +1,10 @@
 -- One reference more.
 use Rattle.std.proofs.Common.{◌≡◌, ◌≢◌, ℕ, ◌+◌, ◌^◌, ◌<◌, ◌≤◌, inl, inr, List, [], arith}
 use Rattle.std.proofs.lemmas.Bool.{cases_eq}
-use Rattle.ledger_map.specs.declared.ledger.Ledger.{Ledger}
-use Rattle.ledger_map.specs.Ledgers.{LedgerState, count_of, total_of, with_count, AreInOrder, IsLawful, AddsOne, KeepsPlaces}
-use Rattle.ledger_map.proofs.CountLemmas.{count_of-with_count, count_of-with_count_other, total_of-with_count, AreInOrder-with_count, ChangesCount-with_count}
+use Rattle.mem_model.specs.declared.ledger.Ledger.{Ledger}
+use Rattle.mem_model.specs.Ledgers.{count_of, total_of, with_count, AreInOrder}
+use Rattle.ledger_map.specs.LedgerState.{LedgerState, IsLawful, AddsOne, KeepsPlaces}
+use Rattle.mem_model.proofs.LedgerCountLemmas.{count_of-with_count, count_of-with_count_other, total_of-with_count, AreInOrder-with_count, ChangesCount-with_count}
 
 -- no owner loses references
 count_of-grown : (xs : List Ledger) (n owner : ℕ) → AreInOrder xs → count_of xs owner ≤ count_of (with_count xs n (count_of xs n + 1)) owner

@@ -1,6 +1,6 @@
 -- What the fields of `Ledgers` stand for.
 use Rattle.std.specs.Prelude.{◌-◌, ◌≤◌, length}
-use Rattle.ledger_map.specs.Ledgers.{LedgerState, IsLawful}
+use Rattle.ledger_map.specs.LedgerState.{LedgerState, IsLawful}
 use Rattle.ledger_map.specs.declared.ledgers.Ledgers.TheInside.{Inside}
 
 -- a ledger that isn't there yet fits without memory where the vector has a place left

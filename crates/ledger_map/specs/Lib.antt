@@ -1,5 +1,4 @@
 -- The definitions of this crate, those first that others stand on.
-pub mod Ledgers
-pub mod Place
+pub mod LedgerState
 pub mod Release
 pub mod Fields

@@ -2,10 +2,11 @@
 use Rattle.std.specs.Prelude.{◌≡◌, ◌≢◌, ℕ, ◌≤◌, ◌==◌, nat_lt, if◌then◌else◌, List, [], ◌∷◌}
 use Rattle.mem_num.specs.Least.{IsLeast}
 use Rattle.mem_num.specs.declared.alloc_id.AllocId.{AllocId}
-use Rattle.ledger_map.specs.declared.ledger.Ledger.{Ledger}
+use Rattle.mem_model.specs.declared.ledger.Ledger.{Ledger}
 use Rattle.ledger_map.specs.declared.after.After.{After}
 use Rattle.ledger_map.specs.declared.after.After.TheVariants.{Same, Gone, Moved, Freed}
-use Rattle.ledger_map.specs.Ledgers.{LedgerState, count_of}
+use Rattle.mem_model.specs.Ledgers.{count_of}
+use Rattle.ledger_map.specs.LedgerState.{LedgerState}
 
 -- what the release of a reference of the allocator n answers, by the owner before and the ledgers that remain
 abbrev pub after_of : ℕ → AllocId → List Ledger → After

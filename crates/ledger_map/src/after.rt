@@ -1,7 +1,7 @@
 //! What a release leaves.
 ghost use Rattle.std.specs.Prelude.{◌≡◌};
 
-use crate::ledger::Ledger;
+use mem_model::Ledger;
 use mem_num::AllocId;
 
 /// What became of a chunk's ledgers when one reference was released.
@@ -19,7 +19,7 @@ pub enum After {
 }
 
 impl After {
-    ghost use Rattle.ledger_map.specs.Ledgers.{count_of};
+    ghost use Rattle.mem_model.specs.Ledgers.{count_of};
     ghost use Rattle.ledger_map.specs.Release.{after_of, new_owner};
 
     /// What the release of a reference answers, by how many references its allocator has left, by the owner before, and by

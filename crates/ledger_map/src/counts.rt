@@ -2,10 +2,10 @@
 ghost use Rattle.std.specs.Prelude.{◌≡◌, ◌+◌, ◌-◌, ◌^◌, ◌<◌, ◌≤◌, IfNone, OnSome, length};
 ghost use Rattle.std.specs.Option.{SomeIff};
 ghost use Rattle.smallvec.specs.SmallVec.{HasRoomFor};
-ghost use Rattle.ledger_map.specs.Ledgers.{AreInOrder, count_of, with_count};
+ghost use Rattle.mem_model.specs.Ledgers.{AreInOrder, count_of, with_count};
 
-use crate::ledger::Ledger;
 use crate::place::place_of;
+use mem_model::Ledger;
 use mem_num::AllocId;
 use smallvec::SmallVec;
 

@@ -3,8 +3,8 @@ ghost use Rattle.std.specs.Prelude.{◌≡◌, ◌^◌, ◌≤◌, ◌<◌, ◌�
 
 use crate::after::After;
 use crate::counts::{Entries, add_one, take_one};
-use crate::ledger::Ledger;
 use crate::place::place_of;
+use mem_model::Ledger;
 use mem_num::{AllocId, LARGEST, NoMemory, Released};
 use smallvec::SmallVec;
 use std::alloc::Global;
@@ -23,7 +23,7 @@ pub struct Ledgers {
 const _: () = prove!(size_of::<Ledgers>() == 64);
 
 impl Model for Ledgers {
-    ghost use Rattle.ledger_map.specs.Ledgers.{LedgerState};
+    ghost use Rattle.ledger_map.specs.LedgerState.{LedgerState};
 
     ghost Value = { LedgerState };
 
@@ -35,7 +35,8 @@ impl Model for Ledgers {
 }
 
 impl Ledgers {
-    ghost use Rattle.ledger_map.specs.Ledgers.{IsLawful, IsUnchanged, AddsOne, TakesOne, count_of, total_of};
+    ghost use Rattle.mem_model.specs.Ledgers.{count_of, total_of};
+    ghost use Rattle.ledger_map.specs.LedgerState.{IsLawful, IsUnchanged, AddsOne, TakesOne};
     ghost use Rattle.ledger_map.specs.Release.{new_owner, after_of, IsAfter};
 
     /// The ledgers of a chunk of `size` bytes, to which its owner has one reference. How many more ledgers fit without memory

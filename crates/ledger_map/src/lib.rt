@@ -3,10 +3,8 @@
 
 mod after;
 mod counts;
-mod ledger;
 mod ledgers;
 mod place;
 
 pub use after::After;
-pub use ledger::Ledger;
 pub use ledgers::Ledgers;

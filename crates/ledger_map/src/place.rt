@@ -1,9 +1,9 @@
 //! Where an allocator's ledger stands among those of a chunk.
 ghost use Rattle.std.specs.Prelude.{◌≡◌, ◌≤◌, ◌↔◌, IsOk, IfOk, IfErr, MatchResult, length};
-ghost use Rattle.ledger_map.specs.Ledgers.{AreInOrder, count_of};
-ghost use Rattle.ledger_map.specs.Place.{IsLedgerAt, place_in};
+ghost use Rattle.mem_model.specs.Ledgers.{AreInOrder, count_of};
+ghost use Rattle.mem_model.specs.LedgerPlace.{IsLedgerAt, place_in};
 
-use crate::ledger::Ledger;
+use mem_model::Ledger;
 use mem_num::AllocId;
 
 /// The place of an allocator's ledger, or as an `Err` the place where it belongs.

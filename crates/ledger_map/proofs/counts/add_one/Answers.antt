@@ -1,8 +1,8 @@
 -- The count is written at the place of its ledger, or a new ledger stands there.
 use Rattle.std.proofs.Common.{◌+◌, ap, arith, refl}
 use Rattle.std.proofs.lemmas.Bool.{false≢true}
-use Rattle.ledger_map.proofs.CountLemmas.{count-read, with_count-written, with_count-inserted}
-use Rattle.ledger_map.specs.Ledgers.{count_of}
+use Rattle.mem_model.proofs.LedgerCountLemmas.{count-read, with_count-written, with_count-inserted}
+use Rattle.mem_model.specs.Ledgers.{count_of}
 use Rattle.ledger_map.proofs.counts.add_one.Goals as goal
 
 pub returns-in-Ok-clause-items : goal.returns-in-Ok-clause-items

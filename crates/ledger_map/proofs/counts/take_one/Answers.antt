@@ -1,7 +1,7 @@
 -- The last reference takes its ledger with it; else one less is written at the ledger's place.
 use Rattle.std.proofs.Common.{◌≢◌, ◌-◌, ap, arith, refl, sym, ◌∙◌}
-use Rattle.ledger_map.proofs.CountLemmas.{count-read, with_count-written, with_count-removed}
-use Rattle.ledger_map.specs.Ledgers.{count_of}
+use Rattle.mem_model.proofs.LedgerCountLemmas.{count-read, with_count-written, with_count-removed}
+use Rattle.mem_model.specs.Ledgers.{count_of}
 use Rattle.ledger_map.proofs.counts.take_one.Goals as goal
 
 pub returns-then-left-eq0-clause-items : goal.returns-then-left-eq0-clause-items

@@ -1,7 +1,7 @@
 -- The ledger that was read at the place is its own, or another, or there is none.
 use Rattle.std.proofs.Common.{sym, ◌∙◌}
 use Rattle.std.proofs.lemmas.Bool.{eqb-true, eqb-false}
-use Rattle.ledger_map.proofs.CountLemmas.{count_of-other, count_of-past, IsLedgerAt-read}
+use Rattle.mem_model.proofs.LedgerCountLemmas.{count_of-other, count_of-past, IsLedgerAt-read}
 use Rattle.ledger_map.proofs.place.place_of.Goals as goal
 
 pub returns-in_default-clause-found : goal.returns-in_default-clause-found

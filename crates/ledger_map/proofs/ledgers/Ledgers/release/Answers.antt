@@ -1,7 +1,7 @@
 -- The cases stand in `ReleaseLemmas`; here they meet the fields.
 use Rattle.std.proofs.Common.{sym, ◌∙◌, arith, refl}
 use Rattle.ledger_map.specs.Fields.{state_of}
-use Rattle.ledger_map.proofs.CountLemmas.{count_of-with_count}
+use Rattle.mem_model.proofs.LedgerCountLemmas.{count_of-with_count}
 use Rattle.ledger_map.proofs.ReleaseLemmas.{IsReleased, released, TakesOne-from}
 use Rattle.ledger_map.proofs.ledgers.Ledgers.release.Goals as goal
 

@@ -1,6 +1,6 @@
 -- The owner keeps its count, and one reference more is few.
 use Rattle.std.proofs.Common.{arith, refl}
-use Rattle.ledger_map.proofs.CountLemmas.{count_of-le-total_of}
+use Rattle.mem_model.proofs.LedgerCountLemmas.{count_of-le-total_of}
 use Rattle.ledger_map.proofs.RetainLemmas.{IsLawful-retained, AddsOne-from}
 use Rattle.ledger_map.proofs.ledgers.Ledgers.retain.Goals as goal
 
