@@ -11,7 +11,7 @@ use Rattle.mem_num.specs.declared.full.Full.{Full}
 use Rattle.mem_num.specs.declared.child_refused.ChildRefused.{ChildRefused}
 use Rattle.mem_num.specs.declared.child_refused.ChildRefused.TheVariants.{ReserveAboveLimit, Closed, Nodes, Full as NoRoom}
 use Rattle.mem_model.specs.declared.charge.Charge.{Charge}
-use Rattle.mem_model.specs.declared.chunk.Chunk.{Chunk}
+use Rattle.mem_model.specs.Chunk.{Chunk}
 use Rattle.mem_model.specs.declared.tree_node.TreeNode.{TreeNode}
 use Rattle.mem_model.specs.Balance.{raised}
 use Rattle.mem_model.specs.Charge.{amount_at, charged_at}
@@ -32,7 +32,8 @@ use Rattle.alloc_tree.specs.Fields.{KeepsNumbers, state_with}
 use Rattle.alloc_tree.specs.Placed.{child_row}
 use Rattle.alloc_tree.specs.Rows.{row_at, kept_of, held_in, peaks_in, uses_in, nodes_in, nodes_from, node_of, IsOpenAt, ChangesUses}
 use Rattle.alloc_tree.specs.Walk.{KeepsNodes, AnswersRequest}
-use Rattle.alloc_tree.proofs.GrantLemmas.{tree_with, peaks_raised, use_counted}
+use Rattle.alloc_tree.proofs.GrantLemmas.{tree_with, peaks_raised}
+use Rattle.alloc_tree.proofs.UseLemmas.{use_counted}
 use Rattle.alloc_tree.proofs.LowerLemmas.{stays_open}
 use Rattle.alloc_tree.proofs.StateLemmas.{open_in, made_in}
 use Rattle.alloc_tree.proofs.RowLemmas.{made_node, kept-set, row_at-other}

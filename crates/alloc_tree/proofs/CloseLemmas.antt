@@ -1,17 +1,19 @@
 -- Closing an allocator, on rows.
-use Rattle.std.proofs.Common.{◌≡◌, ◌≢◌, ℕ, zero, suc, ◌+◌, ◌<◌, ◌≤◌, List, [], ◌∷◌, length, get_or, set, Bool, true, false, ◌&&◌, cond, eqb, ltb, Option, Some, None, is_some, Ok, Err, refl, sym, ap, subst, ◌∙◌, arith, inl, inr, add-zero, sum_by, count_by, ne_eqb, eq-eqb}
+use Rattle.std.proofs.Common.{◌≡◌, ◌≢◌, ℕ, zero, suc, ◌+◌, ◌<◌, ◌≤◌, List, [], ◌∷◌, All, length, get_or, set, Bool, true, false, ◌&&◌, cond, eqb, ltb, Option, Some, None, is_some, Ok, Err, refl, sym, ap, subst, ◌∙◌, arith, inl, inr, add-zero, sum_by, count_by, ne_eqb, eq-eqb}
 use Rattle.std.specs.List.{Contains}
 use Rattle.std.proofs.Math.ListN.{length-set}
-use Rattle.std.proofs.lemmas.Bool.{cases_Bool}
+use Rattle.std.proofs.lemmas.Bool.{cases_Bool, cases_eq}
 use Rattle.std.proofs.lemmas.Bool.Decides.{nat_tests}
 use Rattle.std.proofs.lemmas.List.Sums.{sum_by-cons}
+use Rattle.std.proofs.lemmas.List.Elements.{All-head, All-tail}
 use Rattle.mem_num.specs.declared.alloc_id.AllocId.{AllocId}
 use Rattle.mem_num.specs.declared.not_closed.NotClosed.TheVariants.{InUse, Closed}
-use Rattle.mem_model.specs.declared.chunk.Chunk.{Chunk}
 use Rattle.mem_model.specs.declared.tree_node.TreeNode.{TreeNode}
 use Rattle.mem_model.specs.Balance.{Balances, ExceedsByAmount, amount_for, lowered}
 use Rattle.mem_model.specs.Charge.{amount_at, charged_at}
-use Rattle.mem_model.specs.Chunk.{charge_of, charges_of}
+use Rattle.mem_model.specs.Chunk.{Chunk, charge_of, charges_of, has_ledger}
+use Rattle.mem_model.specs.Ledgers.{count_of}
+use Rattle.alloc_tree.proofs.ChangeLemmas.{ledger_count, ledger_some}
 use Rattle.mem_model.specs.Close.{close_result, closed_where, with_closed}
 use Rattle.mem_model.specs.Held.{counted_children}
 use Rattle.mem_model.specs.LawfulState.{IsLawfulState}
@@ -28,7 +30,7 @@ use Rattle.alloc_tree.specs.Fields.{KeepsNumbers, state_with}
 use Rattle.alloc_tree.specs.Rows.{row_at, held_in, peaks_in, uses_in, nodes_in, nodes_from, node_of, if_open, IsOpenAt, ChangesUses}
 use Rattle.alloc_tree.specs.Walk.{KeepsNodes}
 use Rattle.alloc_tree.proofs.GrantLemmas.{tree_with}
-use Rattle.alloc_tree.proofs.ReleaseLemmas.{use_dropped}
+use Rattle.alloc_tree.proofs.UseLemmas.{use_dropped}
 use Rattle.alloc_tree.proofs.OpenLemmas.{peaks_of-at, is_open_row}
 use Rattle.alloc_tree.proofs.RowLemmas.{made_node, row_of_node, kept_at, kept-same, row_at-other}
 
@@ -82,22 +84,25 @@ closed_weight f nodes e rises place none =
     let zero' : g e ≡ 0 = rw here none in
     omega (arith, sums, zero', sum_closed f nodes n)
 
--- no ledgers, no charges
-uncharged : (chunks : List Chunk) (n : ℕ) → count_by (λ chunk. eqb chunk.owner.0 n) chunks ≡ 0 → charged_at (charges_of chunks) n ≡ 0
-uncharged [] n none = refl
-uncharged (c ∷ cs) n none =
-    let weight : Chunk → ℕ = λ chunk. cond (eqb chunk.owner.0 n) 1 0 in
-    let parts : sum_by weight (c ∷ cs) ≡ weight c + sum_by weight cs = sum_by-cons weight c cs in
-    let rest : charged_at (charges_of cs) n ≡ 0 = uncharged cs n (omega (arith, parts, none)) in
-    let here : amount_at n (charge_of c) ≡ 0 = elim (cases_Bool (eqb c.owner.0 n)) [ inl own ↦ absurd (let one : weight c ≡ 1 = rw own refl in omega (arith, one, parts, none)) | inr other ↦ rw other refl ] in
+-- no ledgers, no charges: an owner has a ledger
+uncharged : (chunks : List Chunk) (n : ℕ) → All (λ chunk. 1 ≤ count_of chunk.ledgers chunk.owner.0) chunks → count_by (has_ledger n) chunks ≡ 0 → charged_at (charges_of chunks) n ≡ 0
+uncharged [] n owned none = refl
+uncharged (c ∷ cs) n owned none =
+    let P : Chunk → Type 0 = λ chunk. 1 ≤ count_of chunk.ledgers chunk.owner.0 in
+    let parts : count_by (has_ledger n) (c ∷ cs) ≡ ledger_count n c + count_by (has_ledger n) cs = sum_by-cons (ledger_count n) c cs in
+    let rest : charged_at (charges_of cs) n ≡ 0 = uncharged cs n (All-tail P c cs owned) (omega (arith, parts, none)) in
+    let here : amount_at n (charge_of c) ≡ 0 = elim (cases_eq c.owner.0 n) [
+      | inl own ↦ absurd (let one = ledger_some n c (subst (λ m. 1 ≤ count_of c.ledgers m) own (All-head P c cs owned)) in omega (arith, one, parts, none))
+      | inr other ↦ rw (ne_eqb c.owner.0 n other) refl
+    ] in
     omega (arith, here, rest, sum_by-cons (amount_at n) (charge_of c) (charges_of cs))
 
 -- an allocator without uses holds nothing
-holds_nothing : (rows : List (Option Row)) (chunks : List Chunk) (next drawn n : ℕ) → KeepsNumbers rows (state_with rows chunks next drawn) → uses_of (state_with rows chunks next drawn) n ≡ 0 → held_in rows n ≡ 0
-holds_nothing rows chunks next drawn n keeps none =
+holds_nothing : (rows : List (Option Row)) (chunks : List Chunk) (next drawn n : ℕ) → IsLawfulState (state_with rows chunks next drawn) → KeepsNumbers rows (state_with rows chunks next drawn) → uses_of (state_with rows chunks next drawn) n ≡ 0 → held_in rows n ≡ 0
+holds_nothing rows chunks next drawn n lawful keeps none =
     let state = state_with rows chunks next drawn in
     let sum : ledgers_of state n + children_of state n ≡ 0 = none in
-    let charges : charged_at (charges_of chunks) n ≡ 0 = uncharged chunks n (omega (arith, sum)) in
+    let charges : charged_at (charges_of chunks) n ≡ 0 = uncharged chunks n (λ k d within. (lawful.chunks k d within).owner) (omega (arith, sum)) in
     let children : counted_children (held_in rows) (nodes_in rows) n ≡ 0 = counted_none (held_in rows) (nodes_in rows) n (none_counted (is_open_child n) (nodes_in rows) (omega (arith, sum))) in
     omega (arith, keeps.held n, charges, children)
 
@@ -142,7 +147,7 @@ shut_rows rows chunks next drawn at row lawful keeps is open_ none =
     let place : Contains (nodes_in rows) e = made_node rows at.0 row is in
     let nodes : nodes_in new ≡ with_closed at.0 (nodes_in rows) = nodes_closed rows at.0 row is in
     let unused : uses_of state at.0 ≡ 0 = sym (keeps.uses at.0) ∙ kept_at (λ r. r.uses) rows at.0 row is ∙ none in
-    let nothing : held_in rows at.0 ≡ 0 = holds_nothing rows chunks next drawn at.0 keeps unused in
+    let nothing : held_in rows at.0 ≡ 0 = holds_nothing rows chunks next drawn at.0 lawful keeps unused in
     let held : held_in new ≡ held_in rows = kept-same (λ r. r.held) rows at.0 row (shut row) is refl in
     let counted : (n : ℕ) → counted_children (held_in rows) (nodes_in rows) n ≡ counted_children (held_in rows) (with_closed at.0 (nodes_in rows)) n + amount_for row.parent row.reservation n =
     λ n. (

@@ -1,6 +1,6 @@
 -- A request for a buffer, on rows.
-use Rattle.std.proofs.Common.{◌≡◌, ℕ, ◌+◌, ◌<◌, ◌≤◌, ◌^◌, List, [], ◌∷◌, ◌++◌, length, get_or, true, false, not, cond, eqb, Option, Some, None, Result, Ok, Err, All, refl, sym, ap, subst, ◌∙◌, arith, inl, inr, ne_eqb}
-use Rattle.std.proofs.lemmas.Bool.{cases_Bool, eqb-true, eqb-false, eq-eqb}
+use Rattle.std.proofs.Common.{◌≡◌, ℕ, ◌+◌, ◌<◌, ◌≤◌, ◌^◌, List, [], ◌∷◌, ◌++◌, length, get_or, true, false, not, cond, eqb, Option, Some, None, Result, Ok, Err, All, refl, sym, ap, subst, ◌∙◌, arith, inl, inr}
+use Rattle.std.proofs.lemmas.Bool.{cases_Bool, eq-eqb}
 use Rattle.std.proofs.lemmas.Bool.Decides.{nat_tests}
 use Rattle.std.proofs.lemmas.List.{map-append, append-nil}
 use Rattle.std.proofs.lemmas.List.Elements.{filter-append, All-head, All-tail}
@@ -11,12 +11,11 @@ use Rattle.mem_num.specs.declared.buffer_ref.Ref.{Ref}
 use Rattle.mem_num.specs.declared.buffer_refused.BufferRefused.{BufferRefused}
 use Rattle.mem_num.specs.declared.buffer_refused.BufferRefused.TheVariants.{Full as NoRoom}
 use Rattle.mem_model.specs.declared.charge.Charge.{Charge}
-use Rattle.mem_model.specs.declared.chunk.Chunk.{Chunk}
 use Rattle.mem_model.specs.declared.tree_node.TreeNode.{TreeNode}
 use Rattle.mem_model.specs.Balance.{Balances, raised}
 use Rattle.mem_model.specs.Charge.{amount_at, charged_at}
 use Rattle.mem_model.specs.Held.{counted_children}
-use Rattle.mem_model.specs.Chunk.{charge_of, charges_of}
+use Rattle.mem_model.specs.Chunk.{Chunk, charge_of, charges_of, new_chunk}
 use Rattle.mem_model.specs.Grant.{charge_result, charge_answer, after_charge}
 use Rattle.mem_model.specs.LawfulState.{IsLawfulState}
 use Rattle.mem_model.specs.MeasuredTree.{MeasuredTree, IsAfterCall, raised_peaks}
@@ -29,6 +28,8 @@ use Rattle.alloc_tree.specs.declared.row.Row.{Row}
 use Rattle.alloc_tree.specs.Fields.{KeepsNumbers, state_with}
 use Rattle.alloc_tree.specs.Rows.{held_in, peaks_in, uses_in, nodes_in, peaks_of, ChangesUses}
 use Rattle.alloc_tree.specs.Walk.{KeepsNodes, AnswersRequest}
+use Rattle.alloc_tree.proofs.UseLemmas.{use_counted}
+use Rattle.alloc_tree.proofs.ChangeLemmas.{ledger_count}
 use Rattle.alloc_tree.proofs.OpenLemmas.{peaks_of-at}
 
 -- the tree of rows and chunks
@@ -49,10 +50,6 @@ charged_last charges charge n = omega (arith, sum_by_push (amount_at n) charges 
 charges_push : (chunks : List Chunk) (chunk : Chunk) → charges_of (chunks ++ chunk ∷ []) ≡ charges_of chunks ++ charge_of chunk ∷ []
 charges_push chunks chunk = map-append charge_of chunks (chunk ∷ [])
 
--- rows whose numbers are those of another tree with the same nodes
-abbrev new_chunk : ℕ → AllocId → ℕ → Chunk
-new_chunk drawn at size = record { number = drawn + 1; size = size; owner = at }
-
 -- a request that has a charge has a chunk
 pub record IsGranted (rows : List (Option Row)) (chunks : List Chunk) (next drawn : ℕ) (at : AllocId) (size : ℕ) (new : List (Option Row)) (new_chunks : List Chunk) (answer : Result Ref BufferRefused) : Type 0 where
   pub lawful : IsLawfulState (state_with new new_chunks next (drawn + 1))
@@ -64,20 +61,17 @@ pub record IsGranted (rows : List (Option Row)) (chunks : List Chunk) (next draw
 with_nodes : List TreeNode → List Chunk → ℕ → ℕ → TreeState
 with_nodes nodes chunks next drawn = record { nodes = nodes; chunks = chunks; next = next; drawn = drawn }
 
--- one use more at the allocator c
-pub use_counted : (n c kept uses : ℕ) → kept ≡ uses → kept + cond (eqb n c) 1 0 ≡ uses + cond (eqb c n) 1 0
-use_counted n c kept uses same = elim (cases_Bool (eqb n c)) [
-  | inl here ↦ (let number : n ≡ c = eqb-true n c here in let back : eqb c n ≡ true = eq-eqb c n (sym number) in rw (here, back) (ap (λ (k : ℕ). k + 1) same))
-  | inr there ↦ (let back : eqb c n ≡ false = ne_eqb c n (λ e. eqb-false n c there (sym e)) in rw (there, back) (ap (λ (k : ℕ). k + 0) same))
-]
+-- a new chunk has a ledger of its owner alone
+new_ledger : (n number size : ℕ) (at : AllocId) → ledger_count n (new_chunk number size at) ≡ cond (eqb at.0 n) 1 0
+new_ledger n number size at = elim (cases_Bool (eqb at.0 n)) [ inl own ↦ rw own refl | inr other ↦ rw other refl ]
 
 pub granted : (rows charged new : List (Option Row)) (chunks : List Chunk) (next drawn : ℕ) (at : AllocId) (size : ℕ) → IsLawfulState (state_with rows chunks next drawn) → KeepsNumbers rows (state_with rows chunks next drawn) → is_open (state_with rows chunks next drawn) at.0 ≡ true → 1 ≤ size → size ≤ 2 ^ 30
     → KeepsNodes rows charged → AnswersRequest (charges_of chunks) (record { at = at; amount = size }) rows charged (Ok tt) → ChangesUses charged new (raised (uses_in charged) at.0 1)
-    → IsGranted rows chunks next drawn at size new (chunks ++ record { number = drawn + 1; size = size; owner = at } ∷ []) (Ok (record { chunk = drawn + 1; alloc = at; size = size }))
+    → IsGranted rows chunks next drawn at size new (chunks ++ new_chunk (drawn + 1) size at ∷ []) (Ok (record { chunk = drawn + 1; alloc = at; size = size }))
 unfolding with_nodes
 granted rows charged new chunks next drawn at size lawful keeps is_open some few kept answers uses =
     let state = state_with rows chunks next drawn in
-    let chunk = new_chunk drawn at size in
+    let chunk = new_chunk (drawn + 1) size at in
     let charges = charges_of chunks in
     let request : Charge = record { at = at; amount = size } in
     let nodes : nodes_in new ≡ nodes_in rows = uses.nodes ∙ kept.nodes in
@@ -90,9 +84,9 @@ granted rows charged new chunks next drawn at size lawful keeps is_open some few
     ∙ ap (λ (f : ℕ → ℕ). charged_at (charges_of (chunks ++ chunk ∷ [])) n + counted_children f (nodes_in rows) n) (sym uses.held) in
     let counted : (n : ℕ) → uses_in new n ≡ uses_of after n =
     λ n. ap (λ (f : ℕ → ℕ). f n) uses.uses ∙ use_counted n at.0 (uses_in charged n) (uses_of state n) (ap (λ (f : ℕ → ℕ). f n) kept.uses ∙ keeps.uses n)
-    ∙ omega (arith, sum_by_push (λ (c : Chunk). cond (eqb c.owner.0 n) 1 0) chunks chunk) in
+    ∙ omega (arith, sum_by_push (ledger_count n) chunks chunk, new_ledger n (drawn + 1) size at) in
     record {
-      lawful = subst IsLawfulState (sym is_after) (lawful-push_chunk state chunk lawful refl some few is_open);
+      lawful = subst IsLawfulState (sym is_after) (lawful-push_chunk state size at lawful some few is_open);
       numbers = subst (KeepsNumbers new) (sym is_after) (record { held = balance; uses = counted });
       places = uses.length ∙ kept.length;
       told = sym (ap (charge_answer state request) refusing);
@@ -121,14 +115,14 @@ last_goes chunks chunk below =
 
 -- a request that was refused has spent its number
 pub grant_refused : (rows charged : List (Option Row)) (chunks left : List Chunk) (next drawn : ℕ) (at : AllocId) (size : ℕ) (full : Full) → IsLawfulState (state_with rows chunks next drawn) → KeepsNumbers rows (state_with rows chunks next drawn)
-    → KeepsNodes rows charged → AnswersRequest (charges_of chunks) (record { at = at; amount = size }) rows charged (Err full) → left ≡ without_chunk (drawn + 1) (chunks ++ record { number = drawn + 1; size = size; owner = at } ∷ [])
+    → KeepsNodes rows charged → AnswersRequest (charges_of chunks) (record { at = at; amount = size }) rows charged (Err full) → left ≡ without_chunk (drawn + 1) (chunks ++ new_chunk (drawn + 1) size at ∷ [])
     → IsGranted rows chunks next drawn at size charged left (Err (NoRoom full))
 unfolding with_nodes
 grant_refused rows charged chunks left next drawn at size full lawful keeps kept answers are =
     let state = state_with rows chunks next drawn in
     let charges = charges_of chunks in
     let request : Charge = record { at = at; amount = size } in
-    let chunks_are : left ≡ chunks = are ∙ last_goes chunks (new_chunk drawn at size) (numbers_below state lawful) in
+    let chunks_are : left ≡ chunks = are ∙ last_goes chunks (new_chunk (drawn + 1) size at) (numbers_below state lawful) in
     let after : TreeState = record state { drawn = drawn + 1 } in
     let is_after : state_with charged left next (drawn + 1) ≡ after = ap (λ ns. with_nodes ns left next (drawn + 1)) kept.nodes ∙ ap (λ cs. with_nodes (nodes_in rows) cs next (drawn + 1)) chunks_are in
     let level : TreeNode = answers.refusal.0 in

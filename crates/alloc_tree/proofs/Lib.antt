@@ -1,16 +1,25 @@
 -- The lemmas of this crate.
 mod NamesLemmas
 mod ChunkLemmas
+mod ReferenceLemmas
+mod ChangeLemmas
 mod RowLemmas
 mod WalkLemmas
 mod RaiseLemmas
 mod LowerLemmas
+mod ForceLemmas
 mod OpenLemmas
 mod LookLemmas
 mod OpeningLemmas
 mod StateLemmas
+mod UseLemmas
 mod GrantLemmas
 mod CallLemmas
+mod DoneLemmas
+mod RetainLemmas
+mod TakeOverLemmas
+mod TransferLemmas
+mod LeftLemmas
 mod ReleaseLemmas
 mod ChildLemmas
 mod CloseLemmas

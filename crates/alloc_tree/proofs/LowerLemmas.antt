@@ -84,7 +84,7 @@ stays_open old new n kept is_open =
     (its.0, its.1, sym (ap (λ (x : TreeNode). x.closed) its.2) ∙ is_open.2)
 
 -- a refused request that was undone
-pub undone : (charges : List Charge) (request : Charge) (old raised_rows new : List (Option Row)) (answer : Option Full) (full : Full) → KeepsNodes old raised_rows → AddsCharge charges request old raised_rows answer → answer ≡ Some full → peaks_in new ≡ peaks_in raised_rows
+pub undone : (charges : List Charge) (request : Charge) (old raised_rows new : List (Option Row)) (answer : Option Full) (full : Full) → KeepsNodes old raised_rows → AddsCharge false charges request old raised_rows answer → answer ≡ Some full → peaks_in new ≡ peaks_in raised_rows
     → (ExceedsByAmount (nodes_in raised_rows) charges (held_in raised_rows) (Some request.at) request.amount → Balances (nodes_in raised_rows) charges (held_in new)) → AnswersRequest charges request old new (Err full)
 undone charges request old raised_rows new answer full kept adds is peaks lowered_back =
     let exceeds : ExceedsByAmount (nodes_in old) charges (held_in raised_rows) (Some request.at) request.amount = exceeds_by_charge (nodes_in old) charges request (held_in raised_rows) adds.held in

@@ -1,6 +1,6 @@
 -- A tree with its root alone.
 use Rattle.std.proofs.Common.{◌≡◌, ℕ, zero, suc, ◌<◌, ◌^◌, List, [], ◌∷◌, get_or, replicate, Option, Some, None, refl, sym, ap, subst, ◌∙◌}
-use Rattle.mem_model.specs.declared.chunk.Chunk.{Chunk}
+use Rattle.mem_model.specs.Chunk.{Chunk}
 use Rattle.mem_model.specs.declared.tree_node.TreeNode.{TreeNode}
 use Rattle.mem_model.specs.LawfulState.{IsLawfulState}
 use Rattle.mem_model.specs.TreeState.{TreeState, root_node, opened}

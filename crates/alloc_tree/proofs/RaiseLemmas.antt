@@ -1,5 +1,5 @@
 -- A walk that adds an amount, over rows.
-use Rattle.std.proofs.Common.{◌≡◌, ℕ, ◌+◌, ◌<◌, List, ◌∷◌, set, false, cond, eqb, Option, Some, None, refl, sym, ap, subst, ◌∙◌, arith, ne_eqb}
+use Rattle.std.proofs.Common.{◌≡◌, ℕ, ◌+◌, ◌<◌, List, ◌∷◌, set, Bool, false, cond, eqb, Option, Some, None, refl, sym, ap, subst, ◌∙◌, arith, ne_eqb}
 use Rattle.std.specs.List.{Contains}
 use Rattle.std.proofs.Math.ListN.{length-set}
 use Rattle.mem_num.specs.declared.alloc_id.AllocId.{AllocId}
@@ -12,7 +12,7 @@ use Rattle.mem_model.specs.TreeNode.{IsAllocatorTree}
 use Rattle.mem_model.proofs.BalanceLemmas.{lacks_none, lacks_nothing, parent_of, HasParent}
 use Rattle.alloc_tree.specs.declared.row.Row.{Row}
 use Rattle.alloc_tree.specs.Rows.{row_at, held_in, peaks_in, node_of, nodes_in, IsOpenAt}
-use Rattle.alloc_tree.specs.Walk.{KeepsNodes, AddsCharge, refusal_after, with_charge}
+use Rattle.alloc_tree.specs.Walk.{KeepsNodes, AddsCharge, peak_refusal, refusal_after, with_charge}
 use Rattle.alloc_tree.proofs.RowLemmas.{made_within, made_node, row_of_node, nodes_in-set, kept_at, kept-set, kept-same, kept-raised}
 use Rattle.alloc_tree.proofs.WalkLemmas.{IsRaising, IsRaised, refusal_at, peak_at, raising_starts, raising_goes_on, raising_ends, ahead_of}
 
@@ -54,51 +54,53 @@ pub level_among : (old rows : List (Option Row)) (level : ℕ) (row : Row) → K
 level_among old rows level row kept is = subst (λ nodes. Contains nodes (node_of level row)) kept.nodes (made_node rows level row is)
 
 -- before the first level
-pub rows_start : (charges : List Charge) (request : Charge) (rows : List (Option Row)) → IsAllocatorTree (nodes_in rows) → IsOpenAt rows request.at.0 → Balances (nodes_in rows) charges (held_in rows)
-    → IsRaising (nodes_in rows) charges request (held_in rows) (peaks_in rows) (held_in rows) (peaks_in rows) (Some request.at) request.amount None
-rows_start charges request rows tree is_open balance =
-    raising_starts (nodes_in rows) charges request (held_in rows) (peaks_in rows) (node_of request.at.0 is_open.0) tree balance (made_node rows request.at.0 is_open.0 is_open.1) is_open.2 refl
+pub rows_start : (is_forced : Bool) (charges : List Charge) (request : Charge) (rows : List (Option Row)) → IsAllocatorTree (nodes_in rows) → IsOpenAt rows request.at.0 → Balances (nodes_in rows) charges (held_in rows)
+    → IsRaising is_forced (nodes_in rows) charges request (held_in rows) (peaks_in rows) (held_in rows) (peaks_in rows) (Some request.at) request.amount None
+rows_start is_forced charges request rows tree is_open balance =
+    raising_starts is_forced (nodes_in rows) charges request (held_in rows) (peaks_in rows) (node_of request.at.0 is_open.0) tree balance (made_node rows request.at.0 is_open.0 is_open.1) is_open.2 refl
 
 -- one level
-pub rows_go_on : (charges : List Charge) (request : Charge) (old rows : List (Option Row)) (level : AllocId) (row : Row) (amount : ℕ) (refusal : Option Full) → IsAllocatorTree (nodes_in old) → Balances (nodes_in old) charges (held_in old)
+pub rows_go_on : (is_forced : Bool) (charges : List Charge) (request : Charge) (old rows : List (Option Row)) (level : AllocId) (row : Row) (amount : ℕ) (refusal : Option Full) → IsAllocatorTree (nodes_in old) → Balances (nodes_in old) charges (held_in old)
     → KeepsNodes old rows → row_at rows level.0 ≡ Some row → row.closed ≡ false → 0 < amount
-    → IsRaising (nodes_in old) charges request (held_in old) (peaks_in old) (held_in rows) (peaks_in rows) (Some level) amount refusal
-    → IsRaising (nodes_in old) charges request (held_in old) (peaks_in old) (held_in (rows_after rows level.0 row amount (refusal_after request.at level row amount refusal))) (peaks_in (rows_after rows level.0 row amount (refusal_after request.at level row amount refusal)))
+    → IsRaising is_forced (nodes_in old) charges request (held_in old) (peaks_in old) (held_in rows) (peaks_in rows) (Some level) amount refusal
+    → IsRaising is_forced (nodes_in old) charges request (held_in old) (peaks_in old) (held_in (rows_after rows level.0 row amount (peak_refusal is_forced (refusal_after request.at level row amount refusal)))) (peaks_in (rows_after rows level.0 row amount (peak_refusal is_forced (refusal_after request.at level row amount refusal))))
     row.parent (beyond_reservation row.reservation row.held (row.held + amount)) (refusal_after request.at level row amount refusal)
-rows_go_on charges request old rows level row amount refusal tree balance kept is is_open some h =
+rows_go_on is_forced charges request old rows level row amount refusal tree balance kept is is_open some h =
     let l = level.0 in
     let e = node_of l row in
     let refusal' = refusal_after request.at level row amount refusal in
-    let row' = with_charge row amount refusal' in
+    let heeded = peak_refusal is_forced refusal' in
+    let row' = with_charge row amount heeded in
     let new = set rows l (Some row') in
     let g = held_in rows in
     let q = peaks_in rows in
     let held_is : g l ≡ row.held = kept_at (λ r. r.held) rows l row is in
     let peak_is : q l ≡ row.peak = kept_at (λ r. r.peak) rows l row is in
     let refusal_is : refusal_at request.at e (g l) amount refusal ≡ refusal' = ap (λ (n : ℕ). refusal_at request.at e n amount refusal) held_is ∙ sym (refusal_of_row request.at level row amount refusal) in
-    let peaks' : (m : ℕ) → peaks_in new m ≡ cond (eqb m l) (peak_at (q l) (g l + amount) (refusal_at request.at e (g l) amount refusal)) (q m) =
+    let peaks' : (m : ℕ) → peaks_in new m ≡ cond (eqb m l) (peak_at (q l) (g l + amount) (peak_refusal is_forced (refusal_at request.at e (g l) amount refusal))) (q m) =
     λ m. kept-set (λ r. r.peak) rows l row' (made_within rows l row is) m
-    ∙ ap (λ (n : ℕ). cond (eqb m l) n (q m)) (with_charge-peak row amount refusal' ∙ ap (λ (n : ℕ). peak_at n (row.held + amount) refusal') (sym peak_is) ∙ ap (λ (n : ℕ). peak_at (q l) (n + amount) refusal') (sym held_is) ∙ ap (peak_at (q l) (g l + amount)) (sym refusal_is)) in
-    let next = raising_goes_on (nodes_in old) charges request (held_in old) (peaks_in old) g q (peaks_in new) e amount refusal tree balance (level_among old rows l row kept is) is_open some peaks' h in
-    let held' : raised g l amount ≡ held_in new = kept-raised (λ r. r.held) rows l amount row row' is (with_charge-held row amount refusal') in
-    let A : (ℕ → ℕ) → ℕ → Option Full → Type 0 = λ f n r. IsRaising (nodes_in old) charges request (held_in old) (peaks_in old) f (peaks_in new) row.parent (beyond_reservation row.reservation n (n + amount)) r in
+    ∙ ap (λ (n : ℕ). cond (eqb m l) n (q m)) (with_charge-peak row amount heeded ∙ ap (λ (n : ℕ). peak_at n (row.held + amount) heeded) (sym peak_is) ∙ ap (λ (n : ℕ). peak_at (q l) (n + amount) heeded) (sym held_is)
+    ∙ ap (λ r. peak_at (q l) (g l + amount) (peak_refusal is_forced r)) (sym refusal_is)) in
+    let next = raising_goes_on is_forced (nodes_in old) charges request (held_in old) (peaks_in old) g q (peaks_in new) e amount refusal tree balance (level_among old rows l row kept is) is_open some peaks' h in
+    let held' : raised g l amount ≡ held_in new = kept-raised (λ r. r.held) rows l amount row row' is (with_charge-held row amount heeded) in
+    let A : (ℕ → ℕ) → ℕ → Option Full → Type 0 = λ f n r. IsRaising is_forced (nodes_in old) charges request (held_in old) (peaks_in old) f (peaks_in new) row.parent (beyond_reservation row.reservation n (n + amount)) r in
     subst (λ r. A (held_in new) row.held r) refusal_is (subst (λ n. A (held_in new) n (refusal_at request.at e (g l) amount refusal)) held_is (subst (λ f. A f (g l) (refusal_at request.at e (g l) amount refusal)) held' next))
 
 -- the walk ends where no amount is left
-pub rows_end : (charges : List Charge) (request : Charge) (old rows : List (Option Row)) (next : Option AllocId) (amount : ℕ) (refusal : Option Full) → IsAllocatorTree (nodes_in old) → Balances (nodes_in old) charges (held_in old) → amount ≡ 0
-    → IsRaising (nodes_in old) charges request (held_in old) (peaks_in old) (held_in rows) (peaks_in rows) next amount refusal → AddsCharge charges request old rows refusal
-rows_end charges request old rows next amount refusal tree balance none h =
-    let done : IsRaised (nodes_in old) charges request (peaks_in old) (held_in rows) (peaks_in rows) refusal =
-    raising_ends (nodes_in old) charges request (held_in old) (peaks_in old) (held_in rows) (peaks_in rows) next amount refusal tree balance (lacks_nothing (nodes_in old) (request ∷ charges) (held_in rows) next amount none h.lacks) h in
+pub rows_end : (is_forced : Bool) (charges : List Charge) (request : Charge) (old rows : List (Option Row)) (next : Option AllocId) (amount : ℕ) (refusal : Option Full) → IsAllocatorTree (nodes_in old) → Balances (nodes_in old) charges (held_in old) → amount ≡ 0
+    → IsRaising is_forced (nodes_in old) charges request (held_in old) (peaks_in old) (held_in rows) (peaks_in rows) next amount refusal → AddsCharge is_forced charges request old rows refusal
+rows_end is_forced charges request old rows next amount refusal tree balance none h =
+    let done : IsRaised is_forced (nodes_in old) charges request (peaks_in old) (held_in rows) (peaks_in rows) refusal =
+    raising_ends is_forced (nodes_in old) charges request (held_in old) (peaks_in old) (held_in rows) (peaks_in rows) next amount refusal tree balance (lacks_nothing (nodes_in old) (request ∷ charges) (held_in rows) next amount none h.lacks) h in
     record { held = done.held; refusal = done.refusal; peaks = done.measured }
 
 -- or at the root
-pub rows_end_at_root : (charges : List Charge) (request : Charge) (old rows : List (Option Row)) (next : Option AllocId) (amount : ℕ) (refusal : Option Full) → IsAllocatorTree (nodes_in old) → Balances (nodes_in old) charges (held_in old) → next ≡ None
-    → IsRaising (nodes_in old) charges request (held_in old) (peaks_in old) (held_in rows) (peaks_in rows) next amount refusal → AddsCharge charges request old rows refusal
-rows_end_at_root charges request old rows next amount refusal tree balance none h =
+pub rows_end_at_root : (is_forced : Bool) (charges : List Charge) (request : Charge) (old rows : List (Option Row)) (next : Option AllocId) (amount : ℕ) (refusal : Option Full) → IsAllocatorTree (nodes_in old) → Balances (nodes_in old) charges (held_in old) → next ≡ None
+    → IsRaising is_forced (nodes_in old) charges request (held_in old) (peaks_in old) (held_in rows) (peaks_in rows) next amount refusal → AddsCharge is_forced charges request old rows refusal
+rows_end_at_root is_forced charges request old rows next amount refusal tree balance none h =
     let lacks : LacksAmount (nodes_in old) (request ∷ charges) (held_in rows) None amount = subst (λ (p : Option AllocId). LacksAmount (nodes_in old) (request ∷ charges) (held_in rows) p amount) none h.lacks in
-    let done : IsRaised (nodes_in old) charges request (peaks_in old) (held_in rows) (peaks_in rows) refusal =
-    raising_ends (nodes_in old) charges request (held_in old) (peaks_in old) (held_in rows) (peaks_in rows) next amount refusal tree balance (lacks_none (nodes_in old) (request ∷ charges) (held_in rows) amount lacks) h in
+    let done : IsRaised is_forced (nodes_in old) charges request (peaks_in old) (held_in rows) (peaks_in rows) refusal =
+    raising_ends is_forced (nodes_in old) charges request (held_in old) (peaks_in old) (held_in rows) (peaks_in rows) next amount refusal tree balance (lacks_none (nodes_in old) (request ∷ charges) (held_in rows) amount lacks) h in
     record { held = done.held; refusal = done.refusal; peaks = done.measured }
 
 -- a parent has a smaller number

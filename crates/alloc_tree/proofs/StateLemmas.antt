@@ -1,8 +1,8 @@
 -- Sound rows: their bounds, and which of their allocators are open.
-use Rattle.std.proofs.Common.{◌≡◌, ℕ, ◌+◌, ◌<◌, ◌≤◌, ◌^◌, List, true, false, Option, Some, None, is_some, IsSome, refl, sym, subst, ◌∙◌, arith, inl, inr, eqb}
+use Rattle.std.proofs.Common.{◌≡◌, ℕ, ◌+◌, ◌<◌, ◌≤◌, ◌^◌, List, true, false, Option, Some, None, is_some, IsSome, refl, sym, subst, ◌∙◌, arith, inl, inr}
 use Rattle.std.proofs.lemmas.Bool.{cases_Bool}
 use Rattle.std.proofs.lemmas.List.Sums.{count_by-le-length}
-use Rattle.mem_model.specs.declared.chunk.Chunk.{Chunk}
+use Rattle.mem_model.specs.Chunk.{Chunk, has_ledger}
 use Rattle.mem_model.specs.LawfulState.{IsLawfulState}
 use Rattle.mem_model.specs.TreeNode.{is_open_child}
 use Rattle.mem_model.specs.TreeState.{charges_in, is_open}
@@ -25,7 +25,7 @@ room_for rows chunks next drawn amount lawful keeps few small n =
 pub few_uses : (rows : List (Option Row)) (chunks : List Chunk) (next drawn n : ℕ) → IsLawfulState (state_with rows chunks next drawn) → KeepsNumbers rows (state_with rows chunks next drawn) → drawn < 2 ^ 32 → uses_in rows n + 1 < 2 ^ 64
 few_uses rows chunks next drawn n lawful keeps few =
     let state = state_with rows chunks next drawn in
-    omega (arith, keeps.uses n, count_by-le-length (λ (c : Chunk). eqb c.owner.0 n) chunks, count_by-le-length (is_open_child n) state.nodes, chunks_few state lawful, nodes_few state lawful)
+    omega (arith, keeps.uses n, count_by-le-length (has_ledger n) chunks, count_by-le-length (is_open_child n) state.nodes, chunks_few state lawful, nodes_few state lawful)
 
 -- a row that is there and isn't closed
 pub open_if : (rows : List (Option Row)) (n : ℕ) (found : Option Row) → row_at rows n ≡ found → is_some (if_open found) ≡ true → IsOpenAt rows n

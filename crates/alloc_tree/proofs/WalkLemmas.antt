@@ -1,6 +1,6 @@
 -- A walk that adds an amount, level by level.
-use Rattle.std.proofs.Common.{◌≡◌, ℕ, ◌+◌, ◌-◌, ◌<◌, ◌≤◌, max, List, [], ◌∷◌, Bool, true, false, ◌&&◌, cond, eqb, ltb, Option, Some, None, refl, sym, ap, subst, ◌∙◌, arith, add-zero, inl, inr, ◌⊎◌, ne_eqb, eq-eqb}
-use Rattle.std.specs.List.{Contains}
+use Rattle.std.proofs.Common.{◌≡◌, ℕ, ◌+◌, ◌-◌, ◌<◌, ◌≤◌, max, List, [], ◌∷◌, map, Bool, true, false, ◌&&◌, cond, eqb, ltb, Option, Some, None, refl, sym, ap, subst, ◌∙◌, arith, add-zero, inl, inr, ◌⊎◌, ne_eqb, eq-eqb}
+use Rattle.std.specs.List.{Contains, list_any}
 use Rattle.std.proofs.lemmas.Bool.{cases_lt, cases_Bool, cases_order, cond_both}
 use Rattle.std.proofs.lemmas.List.Sums.{sum_by-cons}
 use Rattle.std.proofs.lemmas.Bool.Decides.{nat_tests}
@@ -13,12 +13,12 @@ use Rattle.mem_model.specs.Balance.{Balances, LacksAmount, raised}
 use Rattle.mem_model.specs.Held.{held_of}
 use Rattle.mem_model.specs.MeasuredTree.{raised_peaks}
 use Rattle.mem_model.specs.PeakSample.{PeakSample, request_sample, is_counted, held_in}
-use Rattle.mem_model.specs.Request.{is_level, refusing_level, refusal_of}
+use Rattle.mem_model.specs.Request.{is_level, levels_of, refusing_level, refusal_of}
 use Rattle.mem_model.specs.Reservation.{beyond_reservation}
 use Rattle.mem_model.specs.TreeNode.{IsAllocatorTree}
 use Rattle.mem_model.proofs.BalanceLemmas.{balanced_is_held, raise_passes_on, lacks_none, lacking_is_held, parent_of, HasParent, same_node}
 use Rattle.mem_model.proofs.RequestLemmas.{refuses, refusing_level-is, refusing_level-none, is_listed, is_counted-request, unlisted, listed}
-use Rattle.alloc_tree.specs.Walk.{IsRefusal}
+use Rattle.alloc_tree.specs.Walk.{IsRefusal, charge_sample, peak_refusal}
 
 -- the walk hasn't come to the allocator n yet
 abbrev pub IsAhead : Option AllocId → ℕ → Type 0
@@ -52,13 +52,13 @@ peak_with nodes charges request refusal peaks n =
     cond (is_listed nodes charges request n && is_below refusal n) (max (peaks n) (held_of nodes (request ∷ charges) n)) (peaks n)
 
 -- the numbers on the way: `held` and `peaks` are those before the walk
-pub record IsRaising (nodes : List TreeNode) (charges : List Charge) (request : Charge) (held peaks : ℕ → ℕ) (new_held new_peaks : ℕ → ℕ) (next : Option AllocId) (amount : ℕ) (refusal : Option Full) : Type 0 where
+pub record IsRaising (is_forced : Bool) (nodes : List TreeNode) (charges : List Charge) (request : Charge) (held peaks : ℕ → ℕ) (new_held new_peaks : ℕ → ℕ) (next : Option AllocId) (amount : ℕ) (refusal : Option Full) : Type 0 where
   pub lacks : LacksAmount nodes (request ∷ charges) new_held next amount
   pub next_open : IsOpenNext nodes next
   pub held_ahead : (m : ℕ) → IsAhead next m → new_held m ≡ held m
   pub peaks_ahead : (m : ℕ) → IsAhead next m → new_peaks m ≡ peaks m
   pub refused : IsRefusalSoFar nodes charges request next refusal
-  pub peaks_passed : (m : ℕ) → IsPassed next m → new_peaks m ≡ peak_with nodes charges request refusal peaks m
+  pub peaks_passed : (m : ℕ) → IsPassed next m → new_peaks m ≡ peak_with nodes charges request (peak_refusal is_forced refusal) peaks m
 
 -- what was passed holds what its number says
 passed_is_held : (nodes : List TreeNode) (charges : List Charge) (held : ℕ → ℕ) (next : Option AllocId) (amount : ℕ) → IsAllocatorTree nodes → IsOpenNext nodes next → LacksAmount nodes charges held next amount
@@ -113,9 +113,9 @@ peak_of_none : (nodes : List TreeNode) (charges : List Charge) (request : Charge
 peak_of_none nodes charges request refusal peaks n same = rw (unlisted nodes charges request n same) refl
 
 -- before the first level
-pub raising_starts : (nodes : List TreeNode) (charges : List Charge) (request : Charge) (held peaks : ℕ → ℕ) (e : TreeNode) → IsAllocatorTree nodes → Balances nodes charges held → Contains nodes e → e.closed ≡ false → e.number ≡ request.at
-    → IsRaising nodes charges request held peaks held peaks (Some request.at) request.amount None
-raising_starts nodes charges request held peaks e tree balance place is_open number =
+pub raising_starts : (is_forced : Bool) (nodes : List TreeNode) (charges : List Charge) (request : Charge) (held peaks : ℕ → ℕ) (e : TreeNode) → IsAllocatorTree nodes → Balances nodes charges held → Contains nodes e → e.closed ≡ false → e.number ≡ request.at
+    → IsRaising is_forced nodes charges request held peaks held peaks (Some request.at) request.amount None
+raising_starts is_forced nodes charges request held peaks e tree balance place is_open number =
     let lacks : LacksAmount nodes (request ∷ charges) held (Some request.at) request.amount = λ n. omega (arith, balance n, sum_by-cons (amount_at n) request charges) in
     let next : IsOpenNext nodes (Some request.at) = (e, place, is_open, number) in
     let same : (m : ℕ) → request.at.0 < m → held_of nodes (request ∷ charges) m ≡ held_of nodes charges m =
@@ -159,9 +159,9 @@ record IsAtLevel (nodes : List TreeNode) (charges : List Charge) (request : Char
   -- an older allocator that the next step passes over
   between : (m : ℕ) → m < e.number.0 → IsPassed e.parent m → held_of nodes (request ∷ charges) m ≡ held_of nodes charges m
 
-at_level : (nodes : List TreeNode) (charges : List Charge) (request : Charge) (held peaks g q : ℕ → ℕ) (e : TreeNode) (amount : ℕ) (refusal : Option Full) → IsAllocatorTree nodes → Balances nodes charges held → Contains nodes e → e.closed ≡ false → 0 < amount
-    → IsRaising nodes charges request held peaks g q (Some e.number) amount refusal → IsAtLevel nodes charges request held g e amount
-at_level nodes charges request held peaks g q e amount refusal tree balance place is_open some h =
+at_level : (is_forced : Bool) (nodes : List TreeNode) (charges : List Charge) (request : Charge) (held peaks g q : ℕ → ℕ) (e : TreeNode) (amount : ℕ) (refusal : Option Full) → IsAllocatorTree nodes → Balances nodes charges held → Contains nodes e → e.closed ≡ false → 0 < amount
+    → IsRaising is_forced nodes charges request held peaks g q (Some e.number) amount refusal → IsAtLevel nodes charges request held g e amount
+at_level is_forced nodes charges request held peaks g q e amount refusal tree balance place is_open some h =
     let c = e.number.0 in
     let share = beyond_reservation e.reservation (g c) (g c + amount) in
     let passed : LacksAmount nodes (request ∷ charges) (raised g c amount) e.parent share = raise_passes_on nodes (request ∷ charges) g amount e tree.ordered place is_open h.lacks in
@@ -250,15 +250,48 @@ peak_behind nodes charges request peaks e held amount None m behind =
     let on : ltb c m ≡ true = grind (arith, nat_tests) in
     elim (cases_Bool (ltb e.limit (held + amount))) [ inl past ↦ rw (past, on) refl | inr within ↦ rw within refl ]
 
+-- a charge on trial heeds its refusal, and a forced one heeds none
+heeds_refusal : (refusal : Option Full) → peak_refusal false refusal ≡ refusal
+heeds_refusal None = refl
+heeds_refusal (Some full) = refl
+
+heeds_none : (refusal : Option Full) → peak_refusal true refusal ≡ None
+heeds_none None = refl
+heeds_none (Some full) = refl
+
+-- the peak of a level and that of a younger allocator, as the charge heeds its refusal
+peak_here_by : (is_forced : Bool) (nodes : List TreeNode) (charges : List Charge) (request : Charge) (peaks held g q : ℕ → ℕ) (e : TreeNode) (amount : ℕ) (refusal : Option Full) → Contains nodes e → IsAtLevel nodes charges request held g e amount → q e.number.0 ≡ peaks e.number.0
+    → IsRefusalSoFar nodes charges request (Some e.number) refusal
+    → peak_at (q e.number.0) (g e.number.0 + amount) (peak_refusal is_forced (refusal_at request.at e (g e.number.0) amount refusal))
+    ≡ peak_with nodes charges request (peak_refusal is_forced (refusal_at request.at e (g e.number.0) amount refusal)) peaks e.number.0
+peak_here_by false nodes charges request peaks held g q e amount refusal place at same refused =
+    let c = e.number.0 in
+    subst (λ r. peak_at (q c) (g c + amount) r ≡ peak_with nodes charges request r peaks c) (sym (heeds_refusal (refusal_at request.at e (g c) amount refusal)))
+    (peak_here nodes charges request peaks held g q e amount refusal place at same refused)
+peak_here_by true nodes charges request peaks held g q e amount refusal place at same refused =
+    let c = e.number.0 in
+    let level : is_listed nodes charges request c ≡ true = listed nodes charges request e place (is_a_level nodes charges request held g e amount at) in
+    subst (λ r. peak_at (q c) (g c + amount) r ≡ peak_with nodes charges request r peaks c) (sym (heeds_none (refusal_at request.at e (g c) amount refusal)))
+    (rw level (rw (same, at.with_request) refl))
+
+peak_behind_by : (is_forced : Bool) (nodes : List TreeNode) (charges : List Charge) (request : Charge) (peaks : ℕ → ℕ) (e : TreeNode) (held amount : ℕ) (refusal : Option Full) (m : ℕ) → e.number.0 < m
+    → peak_with nodes charges request (peak_refusal is_forced refusal) peaks m ≡ peak_with nodes charges request (peak_refusal is_forced (refusal_at request.at e held amount refusal)) peaks m
+peak_behind_by false nodes charges request peaks e held amount refusal m behind =
+    let peak : Option Full → ℕ = λ r. peak_with nodes charges request r peaks m in
+    ap peak (heeds_refusal refusal) ∙ peak_behind nodes charges request peaks e held amount refusal m behind ∙ ap peak (sym (heeds_refusal (refusal_at request.at e held amount refusal)))
+peak_behind_by true nodes charges request peaks e held amount refusal m behind =
+    let peak : Option Full → ℕ = λ r. peak_with nodes charges request r peaks m in
+    ap peak (heeds_none refusal ∙ sym (heeds_none (refusal_at request.at e held amount refusal)))
+
 -- one level
-pub raising_goes_on : (nodes : List TreeNode) (charges : List Charge) (request : Charge) (held peaks g q q' : ℕ → ℕ) (e : TreeNode) (amount : ℕ) (refusal : Option Full) → IsAllocatorTree nodes → Balances nodes charges held → Contains nodes e → e.closed ≡ false → 0 < amount
-    → ((m : ℕ) → q' m ≡ cond (eqb m e.number.0) (peak_at (q e.number.0) (g e.number.0 + amount) (refusal_at request.at e (g e.number.0) amount refusal)) (q m))
-    → IsRaising nodes charges request held peaks g q (Some e.number) amount refusal
-    → IsRaising nodes charges request held peaks (raised g e.number.0 amount) q' e.parent (beyond_reservation e.reservation (g e.number.0) (g e.number.0 + amount)) (refusal_at request.at e (g e.number.0) amount refusal)
-raising_goes_on nodes charges request held peaks g q q' e amount refusal tree balance place is_open some set_peak h =
+pub raising_goes_on : (is_forced : Bool) (nodes : List TreeNode) (charges : List Charge) (request : Charge) (held peaks g q q' : ℕ → ℕ) (e : TreeNode) (amount : ℕ) (refusal : Option Full) → IsAllocatorTree nodes → Balances nodes charges held → Contains nodes e → e.closed ≡ false → 0 < amount
+    → ((m : ℕ) → q' m ≡ cond (eqb m e.number.0) (peak_at (q e.number.0) (g e.number.0 + amount) (peak_refusal is_forced (refusal_at request.at e (g e.number.0) amount refusal))) (q m))
+    → IsRaising is_forced nodes charges request held peaks g q (Some e.number) amount refusal
+    → IsRaising is_forced nodes charges request held peaks (raised g e.number.0 amount) q' e.parent (beyond_reservation e.reservation (g e.number.0) (g e.number.0 + amount)) (refusal_at request.at e (g e.number.0) amount refusal)
+raising_goes_on is_forced nodes charges request held peaks g q q' e amount refusal tree balance place is_open some set_peak h =
     let c = e.number.0 in
     let refusal' = refusal_at request.at e (g c) amount refusal in
-    let at : IsAtLevel nodes charges request held g e amount = at_level nodes charges request held peaks g q e amount refusal tree balance place is_open some h in
+    let at : IsAtLevel nodes charges request held g e amount = at_level is_forced nodes charges request held peaks g q e amount refusal tree balance place is_open some h in
     record {
       lacks = raise_passes_on nodes (request ∷ charges) g amount e tree.ordered place is_open h.lacks;
       next_open = next_open_of nodes e tree place is_open e.parent refl;
@@ -273,11 +306,11 @@ raising_goes_on nodes charges request held peaks g q q' e amount refusal tree ba
       refused = refused_after nodes charges request held g e amount refusal tree place is_open at h.refused;
       peaks_passed = λ m behind. elim (cases_order m c) [
         | inl same ↦ (let on : eqb m c ≡ true = eq-eqb m c same in
-            set_peak m ∙ rw on (peak_here nodes charges request peaks held g q e amount refusal place at (h.peaks_ahead c (omega arith)) h.refused ∙ ap (peak_with nodes charges request refusal' peaks) (sym same)))
+            set_peak m ∙ rw on (peak_here_by is_forced nodes charges request peaks held g q e amount refusal place at (h.peaks_ahead c (omega arith)) h.refused ∙ ap (peak_with nodes charges request (peak_refusal is_forced refusal') peaks) (sym same)))
         | inr (inl less) ↦ (let off : eqb m c ≡ false = ne_eqb m c (λ same. omega (arith, same, less)) in
-            set_peak m ∙ rw off (h.peaks_ahead m (omega (arith, less)) ∙ peak_of_none nodes charges request refusal' peaks m (at.between m less behind)))
+            set_peak m ∙ rw off (h.peaks_ahead m (omega (arith, less)) ∙ peak_of_none nodes charges request (peak_refusal is_forced refusal') peaks m (at.between m less behind)))
         | inr (inr more) ↦ (let off : eqb m c ≡ false = ne_eqb m c (λ same. omega (arith, same, more)) in
-            set_peak m ∙ rw off (h.peaks_passed m more ∙ peak_behind nodes charges request peaks e (g c) amount refusal m more))
+            set_peak m ∙ rw off (h.peaks_passed m more ∙ peak_behind_by is_forced nodes charges request peaks e (g c) amount refusal m more))
       ];
     }
 
@@ -292,15 +325,32 @@ counts_below nodes charges request None m is = is_counted-request nodes charges 
 counts_below nodes charges request (Some full) m is =
     is_counted-request nodes charges request (Some is.0) m is.1 ∙ ap (λ (n : ℕ). is_listed nodes charges request m && ltb n m) (sym (ap (λ (f : Full). f.node.0) is.2))
 
+listed_all : (levels : List TreeNode) (m : ℕ) → list_any (λ id. eqb id.0 m) (map (λ level. level.number) levels) ≡ (list_any (λ node. eqb node.number.0 m) levels && true)
+listed_all [] m = refl
+listed_all (level ∷ levels) m = elim (cases_Bool (eqb level.number.0 m)) [ inl same ↦ rw same refl | inr other ↦ rw other (listed_all levels m) ]
+
+-- the same where the charge is forced: then all levels count
+counts_by : (is_forced : Bool) (nodes : List TreeNode) (charges : List Charge) (request : Charge) (refusal : Option Full) (m : ℕ) → IsRefusal nodes charges request refusal
+    → is_counted m (charge_sample is_forced nodes charges request) ≡ (is_listed nodes charges request m && is_below (peak_refusal is_forced refusal) m)
+counts_by false nodes charges request refusal m is =
+    counts_below nodes charges request refusal m is ∙ ap (λ r. is_listed nodes charges request m && is_below r m) (sym (heeds_refusal refusal))
+counts_by true nodes charges request refusal m is =
+    listed_all (levels_of nodes charges request) m ∙ ap (λ r. is_listed nodes charges request m && is_below r m) (sym (heeds_none refusal))
+
+-- both samples have the charge
+sample_holds : (is_forced : Bool) (nodes : List TreeNode) (charges : List Charge) (request : Charge) (m : ℕ) → held_in m (charge_sample is_forced nodes charges request) ≡ held_of nodes (request ∷ charges) m
+sample_holds false nodes charges request m = refl
+sample_holds true nodes charges request m = refl
+
 passed_or_ahead : (next : Option AllocId) (m : ℕ) → IsPassed next m ⊎ IsAhead next m
 passed_or_ahead None m = inl tt
 passed_or_ahead (Some p) m = elim (cases_lt p.0 m) [ inl passed ↦ inl passed | inr ahead ↦ inr ahead ]
 
 -- where a walk ends, the numbers balance with the request, and its sample has raised the peaks
-pub record IsRaised (nodes : List TreeNode) (charges : List Charge) (request : Charge) (peaks new_held new_peaks : ℕ → ℕ) (answer : Option Full) : Type 0 where
+pub record IsRaised (is_forced : Bool) (nodes : List TreeNode) (charges : List Charge) (request : Charge) (peaks new_held new_peaks : ℕ → ℕ) (answer : Option Full) : Type 0 where
   pub held : Balances nodes (request ∷ charges) new_held
   pub refusal : IsRefusal nodes charges request answer
-  pub measured : new_peaks ≡ raised_peaks peaks (request_sample nodes charges request ∷ [])
+  pub measured : new_peaks ≡ raised_peaks peaks (charge_sample is_forced nodes charges request ∷ [])
 
 refusal_ends : (nodes : List TreeNode) (charges : List Charge) (request : Charge) (next : Option AllocId) (refusal : Option Full)
     → ((x : TreeNode) → IsPassed next x.number.0 ⊎ (held_of nodes (request ∷ charges) x.number.0 ≡ held_of nodes charges x.number.0))
@@ -311,18 +361,20 @@ refusal_ends nodes charges request next None each refused = refusing_level-none 
 ])
 refusal_ends nodes charges request next (Some full) each refused = (refused.0, refused.1, refused.2)
 
-pub raising_ends : (nodes : List TreeNode) (charges : List Charge) (request : Charge) (held peaks g q : ℕ → ℕ) (next : Option AllocId) (amount : ℕ) (refusal : Option Full) → IsAllocatorTree nodes → Balances nodes charges held
-    → Balances nodes (request ∷ charges) g → IsRaising nodes charges request held peaks g q next amount refusal → IsRaised nodes charges request peaks g q refusal
-raising_ends nodes charges request held peaks g q next amount refusal tree before balance h =
+pub raising_ends : (is_forced : Bool) (nodes : List TreeNode) (charges : List Charge) (request : Charge) (held peaks g q : ℕ → ℕ) (next : Option AllocId) (amount : ℕ) (refusal : Option Full) → IsAllocatorTree nodes → Balances nodes charges held
+    → Balances nodes (request ∷ charges) g → IsRaising is_forced nodes charges request held peaks g q next amount refusal → IsRaised is_forced nodes charges request peaks g q refusal
+raising_ends is_forced nodes charges request held peaks g q next amount refusal tree before balance h =
     let where_is : (m : ℕ) → IsPassed next m ⊎ IsAhead next m = passed_or_ahead next in
     let same : (m : ℕ) → IsAhead next m → held_of nodes (request ∷ charges) m ≡ held_of nodes charges m =
     λ m ahead. sym (balanced_is_held nodes (request ∷ charges) g tree balance m) ∙ h.held_ahead m ahead ∙ balanced_is_held nodes charges held tree before m in
     let answered : IsRefusal nodes charges request refusal = refusal_ends nodes charges request next refusal (λ x. elim (where_is x.number.0) [ inl passed ↦ inl passed | inr ahead ↦ inr (same x.number.0 ahead) ]) h.refused in
-    let sample = request_sample nodes charges request in
-    let peak : (m : ℕ) → q m ≡ peak_with nodes charges request refusal peaks m = λ m. elim (where_is m) [
+    let sample = charge_sample is_forced nodes charges request in
+    let heeded = peak_refusal is_forced refusal in
+    let peak : (m : ℕ) → q m ≡ peak_with nodes charges request heeded peaks m = λ m. elim (where_is m) [
       | inl passed ↦ h.peaks_passed m passed
-      | inr ahead ↦ h.peaks_ahead m ahead ∙ peak_of_none nodes charges request refusal peaks m (same m ahead)
+      | inr ahead ↦ h.peaks_ahead m ahead ∙ peak_of_none nodes charges request heeded peaks m (same m ahead)
     ] in
     let seen : (m : ℕ) → q m ≡ raised_peaks peaks (sample ∷ []) m =
-    λ m. peak m ∙ ap (λ b. cond b (max (peaks m) (held_of nodes (request ∷ charges) m)) (peaks m)) (sym (counts_below nodes charges request refusal m answered)) ∙ sym (raised_once peaks sample m) in
+    λ m. peak m ∙ ap (λ b. cond b (max (peaks m) (held_of nodes (request ∷ charges) m)) (peaks m)) (sym (counts_by is_forced nodes charges request refusal m answered))
+    ∙ ap (λ n. cond (is_counted m sample) (max (peaks m) n) (peaks m)) (sym (sample_holds is_forced nodes charges request m)) ∙ sym (raised_once peaks sample m) in
     record { held = balance; refusal = answered; measured = λ i m. seen m i }

@@ -4,7 +4,7 @@ use Rattle.mem_model.specs.Balance.{Balances}
 use Rattle.mem_model.specs.LawfulState.{IsLawfulState}
 use Rattle.mem_model.specs.MeasuredTree.{MeasuredTree}
 use Rattle.mem_model.specs.TreeState.{TreeState, charges_in, uses_of}
-use Rattle.mem_model.specs.declared.chunk.Chunk.{Chunk}
+use Rattle.mem_model.specs.Chunk.{Chunk}
 use Rattle.alloc_tree.specs.declared.row.Row.{Row}
 use Rattle.alloc_tree.specs.declared.solo_tree.SoloTree.TheInside.{Inside}
 use Rattle.alloc_tree.specs.Rows.{nodes_in, held_in, peaks_of, uses_in}

@@ -1,6 +1,7 @@
 -- The definitions of this crate, those first that others stand on.
 pub mod Names
 pub mod Chunks
+pub mod TakeOver
 pub mod Rows
 pub mod Placed
 pub mod Walk

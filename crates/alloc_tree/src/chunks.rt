@@ -1,17 +1,23 @@
 //! The live chunks of a tree.
-ghost use Rattle.std.specs.Prelude.{◌≡◌, ◌<◌, ◌≤◌, ◌^◌, [], ◌∷◌, ◌++◌, ◌==◌, All, IfSome, OnOk, OnErr};
+ghost use Rattle.std.specs.Prelude.{◌≡◌, ◌≢◌, ℕ, ◌<◌, ◌≤◌, ◌^◌, [], ◌∷◌, ◌++◌, map, All, OnOk, OnErr};
 ghost use Rattle.std.specs.List.{find};
-ghost use Rattle.std.specs.Option.{option_map};
+ghost use Rattle.std.specs.Map.Iter.{ShowsInOrder, deref_pair};
+ghost use Rattle.std.specs.Option.{ForSome, option_map};
+ghost use Rattle.mem_model.specs.Chunk as model;
+ghost use Rattle.mem_model.specs.Ledgers.{count_of, total_of};
+ghost use Rattle.mem_model.specs.References.{refers_to};
 ghost use Rattle.mem_model.specs.Release.{without_chunk};
-ghost use Rattle.alloc_tree.specs.Chunks.{chunk_of, HasOneReference};
+ghost use Rattle.ledger_map.specs.LedgerState.{LedgerState};
+ghost use Rattle.alloc_tree.specs.Chunks.{AreInOrder, chunk_of, chunk_at, with_changed, after_of_release, without_reference};
 
-use ledger_map::Ledgers;
-use mem_num::{AllocId, NoMemory};
+use ledger_map::{After, Ledgers};
+use mem_num::{AllocId, NoMemory, Ref};
 use std::alloc::Global;
 use std::collections::BTreeMap;
+use std::collections::btree_map::Iter;
 use std::marker::Model;
 
-/// The live chunks by number, seen as the list of them. Each has one reference, that of its owner.
+/// The live chunks by number, seen as the list of them.
 #[derive(Drop)]
 pub(crate) struct Chunks {
     alloc: Global,
@@ -20,14 +26,15 @@ pub(crate) struct Chunks {
 
 impl Model for Chunks {
     ghost use Rattle.std.specs.Prelude.{List, map};
-    ghost use Rattle.mem_model.specs.declared.chunk.Chunk.{Chunk};
-    ghost use Rattle.alloc_tree.specs.Chunks.{chunk_of, AreInOrder, HaveOneReference};
+    ghost use Rattle.mem_model.specs.Chunk.{Chunk};
+    ghost use Rattle.ledger_map.specs.LedgerState.{LedgerState};
+    ghost use Rattle.alloc_tree.specs.Chunks.{chunk_of, AreInOrder};
 
     ghost Value = { List Chunk };
 
     ghost view = { λ chunks. map chunk_of chunks.by_number.entries };
 
-    ghost invariant = { λ chunks. AreInOrder (map chunk_of chunks.by_number.entries) × HaveOneReference chunks.by_number.entries };
+    ghost invariant = { λ chunks. AreInOrder (map chunk_of chunks.by_number.entries) };
 }
 
 impl Chunks {
@@ -45,7 +52,7 @@ impl Chunks {
         requires last { All (λ chunk. chunk.number < number) self.old }
         requires some_bytes { 1 ≤ size }
         requires few_bytes { size ≤ 2 ^ 30 }
-        ensures pushed { OnOk result (self.new ≡ self.old ++ record { number = number; size = size; owner = owner } ∷ []) }
+        ensures pushed { OnOk result (self.new ≡ self.old ++ model.new_chunk number size owner ∷ []) }
         ensures err { OnErr result (self.new ≡ self.old) }
     {
         let ledgers = Ledgers::new(self.alloc, size, owner)?;
@@ -57,11 +64,77 @@ impl Chunks {
 
     /// The ledgers of a chunk. Takes time by the logarithm of how many chunks are live.
     pub fn get(&self, number: u32) -> Option<&Ledgers>
-        ensures chunk { option_map (λ ledgers. chunk_of (number, ledgers.now)) result
-            ≡ find (λ chunk. chunk.number == number) self.now }
-        ensures one { IfSome result (λ ledgers. HasOneReference ledgers.now) }
+        ensures chunk { option_map (λ ledgers. chunk_of (number, ledgers.now)) result ≡ chunk_at self.now number }
+        ensures ordered { AreInOrder self.now }
     {
         self.by_number.get(&number)
+    }
+
+    /// The ledgers of the chunk that a reference is to, if it wasn't given back.
+    pub fn referred(&self, of: Ref) -> Option<&Ledgers>
+        ensures { option_map (λ ledgers. chunk_of (of.chunk, ledgers.now)) result ≡ find (refers_to of) self.now }
+    {
+        let ledgers = self.get(of.chunk)?;
+        if ledgers.count(of.alloc) == 0 {
+            return None;
+        }
+        Some(ledgers)
+    }
+
+    /// The chunks in order of number.
+    pub fn iter(&self) -> Iter<'_, u32, Ledgers>
+        ensures chunks { map chunk_of result ≡ self.now }
+        ensures runs { ShowsInOrder (deref_pair {K = ℕ} {X = LedgerState}) }
+    {
+        self.by_number.iter()
+    }
+
+    /// Adds a reference of an allocator to a chunk. A ledger that wasn't there may take memory, which is taken first.
+    pub fn retain(&mut self, number: u32, at: AllocId) -> Result<(), NoMemory>
+        requires live { ForSome (chunk_at self.old number) (λ chunk. chunk.ledgers ≢ []) }
+        requires room { ForSome (chunk_at self.old number) (λ chunk. total_of chunk.ledgers < 2 ^ 58) }
+        ensures retained { OnOk result (self.new ≡ with_changed (model.retained at.0) number self.old) }
+        ensures err { OnErr result (self.new ≡ self.old) }
+    {
+        let Some(ledgers) = self.by_number.get_mut(&number) else {
+            return Ok(());
+        };
+        if ledgers.count(at) > 0 {
+            ledgers.retain(at);
+            return Ok(());
+        }
+        ledgers.room()?;
+        ledgers.retain(at);
+        Ok(())
+    }
+
+    /// Takes a reference away, and the chunk with the last one. Answers what is left, with the chunk's size; `None` where the
+    /// reference was given back before. Takes no memory.
+    pub fn release(&mut self, of: Ref) -> Option<(After, u64)>
+        ensures after { result ≡ option_map (after_of_release of.alloc) (find (refers_to of) self.old) }
+        ensures left { self.new ≡ without_reference of self.old }
+    {
+        let ledgers = self.by_number.get_mut(&of.chunk)?;
+        let size = ledgers.size();
+        let Ok(after) = ledgers.release(of.alloc) else {
+            return None;
+        };
+        if !ledgers.entries().is_empty() {
+            return Some((after, size));
+        }
+        self.by_number.remove(&of.chunk);
+        Some((after, size))
+    }
+
+    /// Charges another allocator for a chunk, one that refers to it. Takes no memory.
+    pub fn make_owner(&mut self, number: u32, at: AllocId)
+        requires refers { ForSome (chunk_at self.old number) (λ chunk. 1 ≤ count_of chunk.ledgers at.0) }
+        ensures { self.new ≡ with_changed (λ chunk. record chunk { owner = at }) number self.old }
+    {
+        let Some(ledgers) = self.by_number.get_mut(&number) else {
+            return;
+        };
+        ledgers.make_owner(at);
     }
 
     /// Takes a chunk away, if it is there. Takes no memory.

@@ -5,7 +5,7 @@ ghost use Rattle.mem_model.specs.Balance.{Balances, ExceedsByAmount, raised, low
 ghost use Rattle.mem_model.specs.TreeNode.{IsAllocatorTree};
 ghost use Rattle.alloc_tree.specs.Placed.{opened_rows};
 ghost use Rattle.alloc_tree.specs.Rows.{nodes_in, held_in, peaks_in, uses_in, row_at, if_open, IsOpenAt, ChangesUses};
-ghost use Rattle.alloc_tree.specs.Walk.{KeepsNodes, AnswersRequest};
+ghost use Rattle.alloc_tree.specs.Walk.{KeepsNodes, AnswersRequest, MovesAmount, MovesCharge};
 
 use crate::row::Row;
 use crate::{uses, walk};
@@ -91,6 +91,23 @@ impl Rows {
             → Balances (nodes_in self.old) charges (held_in self.new) }
     {
         walk::lower(&mut self.rows, at, amount);
+    }
+
+    /// Moves an amount from an allocator to another one, onto which it is forced first. Answers whether every level was within
+    /// its limit then.
+    pub fn move_charge(&mut self, from: AllocId, to: AllocId, amount: u64) -> bool
+        requires tree { IsAllocatorTree (nodes_in self.old) }
+        requires from { IsOpenAt self.old from.0 }
+        requires to { IsOpenAt self.old to.0 }
+        requires fits { (n : ℕ) → held_in self.old n + amount < 2 ^ 64 }
+        requires covered { (before : List Charge) × (after : List Charge) × Balances (nodes_in self.old) before (held_in self.old)
+            × MovesAmount before after from to amount }
+        ensures kept { KeepsNodes self.old self.new }
+        ensures moved { (before after : List Charge) → Balances (nodes_in self.old) before (held_in self.old)
+            → MovesAmount before after from to amount
+            → MovesCharge before after (record { at = to; amount = amount }) self.old self.new result }
+    {
+        walk::move_charge(&mut self.rows, from, to, amount)
     }
 
     /// Counts one use more of an allocator.

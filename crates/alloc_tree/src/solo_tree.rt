@@ -1,23 +1,27 @@
 //! The tree of one thread.
-ghost use Rattle.std.specs.Prelude.{◌≡◌, ◌==◌, ◌<◌, ◌^◌, IfOk};
-ghost use Rattle.std.specs.List.{find};
+ghost use Rattle.std.specs.Prelude.{◌≡◌, ℕ, ◌<◌, ◌^◌, IfOk, map};
+ghost use Rattle.std.specs.Map.Iter.{ShowsInOrder, deref_pair};
 ghost use Rattle.std.specs.Option.{option_map};
 ghost use Rattle.mem_model.specs.LawfulState.{IsLawfulState};
 ghost use Rattle.mem_model.specs.TreeState.{is_open};
 ghost use Rattle.mem_model.specs.MeasuredTree.{IsOpened, peak_at, placed_at};
-ghost use Rattle.alloc_tree.specs.Chunks.{chunk_of};
+ghost use Rattle.ledger_map.specs.LedgerState.{LedgerState};
+ghost use Rattle.alloc_tree.specs.Chunks.{chunk_of, chunk_at};
 
 mod child;
 mod close;
 mod grant;
 mod headroom;
 mod release;
+mod retain;
+mod transfer;
 
 use crate::chunks::Chunks;
 use crate::rows::Rows;
 use ledger_map::Ledgers;
 use mem_num::{AllocId, Closed, NoMemory, Node, Placed};
 use std::alloc::Global;
+use std::collections::btree_map::Iter;
 use std::marker::Model;
 
 /// The tree of allocators of one thread, seen as its allocators and live chunks, the numbers to give next, and the peak of each
@@ -86,10 +90,17 @@ impl SoloTree {
 
     /// The ledgers of a chunk, if it is live.
     pub fn chunk(&self, number: u32) -> Option<&Ledgers>
-        ensures { option_map (λ ledgers. chunk_of (number, ledgers.now)) result
-            ≡ find (λ chunk. chunk.number == number) self.now.state.chunks }
+        ensures { option_map (λ ledgers. chunk_of (number, ledgers.now)) result ≡ chunk_at self.now.state.chunks number }
     {
         self.chunks.get(number)
+    }
+
+    /// The live chunks with their ledgers, in order of number.
+    pub fn chunks(&self) -> Iter<'_, u32, Ledgers>
+        ensures chunks { map chunk_of result ≡ self.now.state.chunks }
+        ensures runs { ShowsInOrder (deref_pair {K = ℕ} {X = LedgerState}) }
+    {
+        self.chunks.iter()
     }
 
     // Whether an allocator was made and isn't closed.

@@ -1,11 +1,11 @@
 //! Walks from an allocator towards the root, as far as an amount passes the reservations on the way.
-ghost use Rattle.std.specs.Prelude.{◌≡◌, ℕ, ◌+◌, ◌<◌, ◌^◌, List, Some, IsSome};
+ghost use Rattle.std.specs.Prelude.{◌≡◌, ℕ, ◌+◌, ◌<◌, ◌^◌, List, Some, IsSome, true, false};
 ghost use Rattle.mem_model.specs.declared.charge.Charge.{Charge};
 ghost use Rattle.mem_model.specs.TreeNode.{IsAllocatorTree};
 ghost use Rattle.mem_model.specs.Balance.{Balances, ExceedsByAmount};
 ghost use Rattle.mem_model.specs.Reservation.{beyond_reservation};
 ghost use Rattle.alloc_tree.specs.Rows.{nodes_in, held_in, peaks_in, row_at, IsOpenAt};
-ghost use Rattle.alloc_tree.specs.Walk.{KeepsNodes, AddsCharge, AnswersRequest, refusal_after, with_charge};
+ghost use Rattle.alloc_tree.specs.Walk.{KeepsNodes, AddsCharge, AnswersRequest, MovesCharge, ForcesCharge, MovesAmount, charge_sample, peak_refusal, refusal_after, with_charge};
 
 use crate::row::Row;
 use crate::uses::row_of;
@@ -22,7 +22,7 @@ pub(crate) fn request(rows: &mut [Option<Row>], at: AllocId, amount: u64) -> Res
     ensures answers { (charges : List Charge) → Balances (nodes_in rows.old) charges (held_in rows.old)
         → AnswersRequest charges (record { at = at; amount = amount }) rows.old rows.new result }
 {
-    match raise(rows, at, amount) {
+    match raise(rows, at, amount, false) {
         None => Ok(()),
         Some(full) => {
             lower(rows, at, amount);
@@ -31,16 +31,53 @@ pub(crate) fn request(rows: &mut [Option<Row>], at: AllocId, amount: u64) -> Res
     }
 }
 
+/// Charges an amount at an allocator whatever the limits are, and answers whether every level is within its limit. After
+/// `Accountant.forceAllocate`.
+pub(crate) fn force(rows: &mut [Option<Row>], at: AllocId, amount: u64) -> bool
+    requires tree { IsAllocatorTree (nodes_in rows.old) }
+    requires open { IsOpenAt rows.old at.0 }
+    requires fits { (n : ℕ) → held_in rows.old n + amount < 2 ^ 64 }
+    ensures kept { KeepsNodes rows.old rows.new }
+    ensures forced { (charges : List Charge) → Balances (nodes_in rows.old) charges (held_in rows.old)
+        → ForcesCharge charges (record { at = at; amount = amount }) rows.old rows.new result }
+{
+    raise(rows, at, amount, true).is_none()
+}
+
+/// Moves an amount from an allocator to another one: it is forced onto that one first, so that for a moment both hold it.
+/// Answers whether every level was within its limit then. After `BufferLedger.transferOwnership`.
+pub(crate) fn move_charge(rows: &mut [Option<Row>], from: AllocId, to: AllocId, amount: u64) -> bool
+    requires tree { IsAllocatorTree (nodes_in rows.old) }
+    requires from { IsOpenAt rows.old from.0 }
+    requires to { IsOpenAt rows.old to.0 }
+    requires fits { (n : ℕ) → held_in rows.old n + amount < 2 ^ 64 }
+    requires covered { (before : List Charge) × (after : List Charge) × Balances (nodes_in rows.old) before (held_in rows.old)
+        × MovesAmount before after from to amount }
+    ensures kept { KeepsNodes rows.old rows.new }
+    ensures moved { (before after : List Charge) → Balances (nodes_in rows.old) before (held_in rows.old)
+        → MovesAmount before after from to amount
+        → MovesCharge before after (record { at = to; amount = amount }) rows.old rows.new result }
+{
+    let fits = force(rows, to, amount);
+    lower(rows, from, amount);
+    fits
+}
+
 /// Adds an amount at an allocator, and above it what is beyond the reservations below; also where a limit is passed. Answers
-/// the lowest level past its limit. A level's peak sees the new number unless that level or one below is past its limit. After
-/// `Accountant.allocate`.
-pub(crate) fn raise(rows: &mut [Option<Row>], at: AllocId, amount: u64) -> Option<Full>
+/// the lowest level past its limit. A level's peak sees the new number if the charge is forced, or else unless that level or
+/// one below is past its limit. After `Accountant.allocate`.
+pub(crate) fn raise(
+    rows: &mut [Option<Row>],
+    at: AllocId,
+    amount: u64,
+    is_forced: bool,
+) -> Option<Full>
     requires tree { IsAllocatorTree (nodes_in rows.old) }
     requires open { IsOpenAt rows.old at.0 }
     requires fits { (n : ℕ) → held_in rows.old n + amount < 2 ^ 64 }
     ensures kept { KeepsNodes rows.old rows.new }
     ensures charged { (charges : List Charge) → Balances (nodes_in rows.old) charges (held_in rows.old)
-        → AddsCharge charges (record { at = at; amount = amount }) rows.old rows.new result }
+        → AddsCharge is_forced charges (record { at = at; amount = amount }) rows.old rows.new result }
 {
     let mut refusal = None;
     let mut level = at;
@@ -48,7 +85,7 @@ pub(crate) fn raise(rows: &mut [Option<Row>], at: AllocId, amount: u64) -> Optio
     while pending > 0 {
         let row = row_of(rows, level);
         refusal = refusal_after(at, level, row, pending, refusal);
-        rows[level.0 as usize] = Some(with_charge(row, pending, refusal));
+        rows[level.0 as usize] = Some(with_charge(row, pending, is_forced, refusal));
         let Some(parent) = row.parent else {
             break;
         };
@@ -105,15 +142,16 @@ fn refusal_after(
     })
 }
 
-// A level's row with an amount more; its peak sees it where nothing was refused up to there.
-fn with_charge(row: Row, amount: u64, refusal: Option<Full>) -> Row
+// A level's row with an amount more; its peak sees it where the charge is forced, or nothing was refused up to there.
+fn with_charge(row: Row, amount: u64, is_forced: bool, refusal: Option<Full>) -> Row
     requires { row.held + amount < 2 ^ 64 }
-    ensures { result ≡ with_charge row amount refusal }
+    ensures { result ≡ with_charge row amount (peak_refusal is_forced refusal) }
 {
     let held = row.held + amount;
-    let peak = match refusal {
-        Some(_) => row.peak,
-        None => row.peak.max(held),
+    let peak = if is_forced || refusal.is_none() {
+        row.peak.max(held)
+    } else {
+        row.peak
     };
     Row { held, peak, ..row }
 }

@@ -1,8 +1,11 @@
 //! The worked examples, run on the tree: the numbers were found by hand; and a tree of the greatest depth beside the plain one.
 
+mod mixed;
+mod references;
+
 use super::*;
 use mem_model::PlainTree;
-use mem_num::{BufferRefused, ChildRefused, Full, NotClosed, Ref, Released};
+use mem_num::{BufferRefused, ChildRefused, Full, NotClosed, Ref, Released, SoloRefused};
 use std::alloc::AllocGlobal;
 use std::process::Abort;
 use std::test::Fail;
@@ -42,6 +45,26 @@ fn grant(
 ) -> Result<Ref, BufferRefused> {
     assert!(rt; tree.drawn() < u32::MAX);
     tree.grant(at, request)
+}
+
+fn retain(
+    rt: &impl Abort,
+    tree: &mut SoloTree,
+    of: Ref,
+    target: AllocId,
+) -> Result<Ref, SoloRefused> {
+    assert!(rt; tree.has_room_for(of));
+    tree.retain(of, target)
+}
+
+fn transfer(
+    rt: &impl Abort,
+    tree: &mut SoloTree,
+    of: Ref,
+    target: AllocId,
+) -> Result<(Ref, bool), SoloRefused> {
+    assert!(rt; tree.has_room_for(of));
+    tree.transfer(of, target)
 }
 
 /// What an allocator reserves, holds, held at most and may hold.

@@ -13,7 +13,7 @@ invariant-loop-pending l = record {
   least : l.pending ≤ l.fn.amount;
   fits : (n : ℕ) → n ≤ l.level.0 → held_in l.rows n ≡ held_in l.initial.rows n;
   charged : (charges : List Charge) → Balances (nodes_in l.initial.rows) charges (held_in l.initial.rows)
-      → IsRaising (nodes_in l.initial.rows) charges (record { at = l.fn.at; amount = l.fn.amount }) (held_in l.initial.rows) (peaks_in l.initial.rows) (held_in l.rows) (peaks_in l.rows) (Some l.level) l.pending l.refusal;
+      → IsRaising l.fn.is_forced (nodes_in l.initial.rows) charges (record { at = l.fn.at; amount = l.fn.amount }) (held_in l.initial.rows) (peaks_in l.initial.rows) (held_in l.rows) (peaks_in l.rows) (Some l.level) l.pending l.refusal;
 }
 
 abbrev pub decreases-loop-pending : goal.decreases-loop-pending
