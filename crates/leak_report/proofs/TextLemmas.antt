@@ -16,7 +16,7 @@ use Rattle.mem_model.proofs.HeldLemmas.{Rises, IsOlderTree, older_from_tree, no_
 use Rattle.leak_report.specs.TreeText.{lines_under, line_text, is_open_under, text_below, children_text}
 
 -- the parent of a node is older than it
-abbrev HasOlderParent : TreeNode → Type 0
+abbrev pub HasOlderParent : TreeNode → Type 0
 HasOlderParent node = ForSome node.parent (λ p. p.0 < node.number.0)
 
 -- the child test by the parent that is told is that by the parent
@@ -33,7 +33,7 @@ child_by n m (Some p) at closed is older =
     ]
 
 -- the child test on a node with its numbers is that on the node
-child_same : (peaks : ℕ → ℕ) (state : TreeState) (n : ℕ) (node : TreeNode) → HasOlderParent node → is_open_under n (placed_node peaks state node) ≡ is_open_child n node
+pub child_same : (peaks : ℕ → ℕ) (state : TreeState) (n : ℕ) (node : TreeNode) → HasOlderParent node → is_open_under n (placed_node peaks state node) ≡ is_open_child n node
 child_same peaks state n node older = child_by n node.number.0 node.parent node.number node.closed refl older
 
 -- the lines below n among some nodes of a tree

@@ -1,2 +1,6 @@
--- The definitions of this crate.
+-- The definitions of this crate, those first that others stand on.
 pub mod TreeText
+pub mod ReportText
+pub mod Report
+pub mod LawfulReport
+pub mod ReadableReport

@@ -2,7 +2,11 @@
 #![tactic(auto)]
 
 mod laws;
+mod report;
 mod text;
 
-pub use laws::text_below_goes_child_by_child;
+pub use laws::{
+    report_of_a_lawful_tree_is_lawful, text_below_goes_child_by_child, text_determines_its_report,
+};
+pub use report::report_text;
 pub use text::tree_text;

@@ -2,6 +2,7 @@
 //! number; then each allocator's children are found among those behind it, since a child has a greater number than its parent.
 ghost use Rattle.std.specs.Prelude.{◌≡◌, ◌+◌, ◌^◌, ◌<◌, ◌==◌, length, map, ◌++◌, IfOk, OnOk, string_bytes};
 ghost use Rattle.std.specs.List.{find};
+ghost use Rattle.mem_model.specs.LawfulState.{IsLawfulState};
 ghost use Rattle.mem_model.specs.MeasuredTree.{peak_at};
 ghost use Rattle.leak_report.specs.TreeText as spec;
 
@@ -15,6 +16,7 @@ use std::alloc::{AllocError, Global};
 pub fn tree_text(alloc: Global, tree: &SoloTree, names: &[Names]) -> Result<String, NoMemory>
     ensures text { IfOk result (λ text. string_bytes text
         ≡ spec.tree_text (map (λ n. n.bindings) names.now) (peak_at tree.now) tree.now.state) }
+    ensures lawful { IsLawfulState tree.now.state }
 {
     let Ok(nodes) = placed_nodes(alloc, tree) else {
         return Err(NoMemory);
@@ -27,7 +29,8 @@ pub fn tree_text(alloc: Global, tree: &SoloTree, names: &[Names]) -> Result<Stri
 
 // The allocators of a tree with their numbers, in order of number.
 fn placed_nodes(alloc: Global, tree: &SoloTree) -> Result<Vec<Placed>, AllocError>
-    ensures { IfOk result (λ nodes. nodes.items ≡ spec.placed_nodes (peak_at tree.now) tree.now.state) }
+    ensures nodes { IfOk result (λ nodes. nodes.items ≡ spec.placed_nodes (peak_at tree.now) tree.now.state) }
+    ensures lawful { IsLawfulState tree.now.state }
 {
     let mut nodes = Vec::new(alloc);
     // A number that was given isn't always one of an allocator: some were refused.

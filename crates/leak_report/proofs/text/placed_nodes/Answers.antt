@@ -19,7 +19,7 @@ loop-number-preserved c =
       | in_default w ↦ (let same = rw w.in_default.is at more in ap (λ v. v.items) w.nodes-is ∙ c.loop-number.invariant ∙ sym (same ∙ append-nil _))
     ]
 
-pub returns : goal.returns
-returns c =
+pub returns-clause-nodes : goal.returns-clause-nodes
+returns-clause-nodes c =
     let tree = c.args.tree.now in
     c.loop-number.invariant ∙ ap (map (placed_node (peak_at tree) tree.state)) (nodes_below-end tree.state c.loop-number.number c.next.ensures.lawful (omega (arith, c.next.ensures.value, c.min-number-end.ensures)))

@@ -1,0 +1,120 @@
+-- The lines of a tree tell whose child each allocator is: the parent's line is the last one before that is one level higher.
+use Rattle.std.proofs.Common.{◌≡◌, ℕ, ◌+◌, ◌≤◌, ◌==◌, List, [], ◌∷◌, ◌++◌, true, false, if◌then◌else◌, Option, Some, None, is_none, refl, sym, ap, ◌∙◌, arith, inl, inr}
+use Rattle.std.proofs.lemmas.Bool.{cases_Bool, eqb-true, eq-eqb, ne_eqb, cond-true, cond-false, true≢false}
+use Rattle.mem_num.specs.declared.alloc_id.AllocId.{AllocId}
+use Rattle.mem_model.specs.TreeNode.{is_number}
+use Rattle.leak_report.specs.Report.{PrintedAllocator, TreeLine, line_of, lines_of, has_parent}
+
+-- the allocators with this parent, each with those below it, in the order of their lines
+abbrev pub in_line_order : List PrintedAllocator → Option AllocId → List PrintedAllocator
+in_line_order [] parent = []
+in_line_order (printed ∷ later) parent =
+    (if has_parent parent printed then printed ∷ in_line_order later (Some printed.number) else []) ++ in_line_order later parent
+
+-- the parent of a line at each depth, once a line was read
+abbrev with_level : (ℕ → Option AllocId) → TreeLine → ℕ → Option AllocId
+with_level levels line depth = if depth == line.depth + 1 then Some line.number else levels depth
+
+-- and once some lines were read
+abbrev levels_after : (ℕ → Option AllocId) → List TreeLine → ℕ → Option AllocId
+levels_after levels [] = levels
+levels_after levels (line ∷ lines) = levels_after (with_level levels line) lines
+
+-- the allocator of a line, with this parent
+abbrev allocator_of_line : TreeLine → Option AllocId → PrintedAllocator
+allocator_of_line line parent = record {
+  number = line.number;
+  parent = parent;
+  name = line.name;
+  reservation = line.reservation;
+  held = line.held;
+  peak = line.peak;
+  limit = line.limit;
+}
+
+-- the allocators of some lines, by the parent at each depth
+abbrev read_parents : (ℕ → Option AllocId) → List TreeLine → List PrintedAllocator
+read_parents levels [] = []
+read_parents levels (line ∷ lines) = allocator_of_line line (levels line.depth) ∷ read_parents (with_level levels line) lines
+
+-- the levels after two lists of lines
+levels_after-append : (levels : ℕ → Option AllocId) (xs ys : List TreeLine) → levels_after levels (xs ++ ys) ≡ levels_after (levels_after levels xs) ys
+levels_after-append levels [] ys = refl
+levels_after-append levels (x ∷ xs) ys = levels_after-append (with_level levels x) xs ys
+
+-- and their allocators
+read_parents-append : (levels : ℕ → Option AllocId) (xs ys : List TreeLine) → read_parents levels (xs ++ ys) ≡ read_parents levels xs ++ read_parents (levels_after levels xs) ys
+read_parents-append levels [] ys = refl
+read_parents-append levels (x ∷ xs) ys = ap (λ zs. allocator_of_line x (levels x.depth) ∷ zs) (read_parents-append (with_level levels x) xs ys)
+
+-- the lines of a child, of those below it, and of the others
+lines_of-child : (x : PrintedAllocator) (later : List PrintedAllocator) (depth : ℕ) (parent : Option AllocId) → has_parent parent x ≡ true
+    → lines_of (x ∷ later) depth parent ≡ line_of depth x ∷ (lines_of later (depth + 1) (Some x.number) ++ lines_of later depth parent)
+lines_of-child x later depth parent child = rw child refl
+
+-- another has no lines here
+lines_of-other : (x : PrintedAllocator) (later : List PrintedAllocator) (depth : ℕ) (parent : Option AllocId) → has_parent parent x ≡ false → lines_of (x ∷ later) depth parent ≡ lines_of later depth parent
+lines_of-other x later depth parent other = rw other refl
+
+-- lines from a depth on leave the levels down to it
+levels_kept : (xs : List PrintedAllocator) (depth : ℕ) (parent : Option AllocId) (levels : ℕ → Option AllocId) (k : ℕ) → k ≤ depth → levels_after levels (lines_of xs depth parent) k ≡ levels k
+levels_kept [] depth parent levels k high = refl
+levels_kept (x ∷ later) depth parent levels k high = elim (cases_Bool (has_parent parent x)) [
+  | inl child ↦ (
+      let first = with_level levels (line_of depth x) in
+      let below = lines_of later (depth + 1) (Some x.number) in
+      let apart : (k == depth + 1) ≡ false = ne_eqb k (depth + 1) (λ same. omega arith) in
+      ap (λ lines. levels_after levels lines k) (lines_of-child x later depth parent child)
+      ∙ ap (λ (f : ℕ → Option AllocId). f k) (levels_after-append first below (lines_of later depth parent))
+      ∙ levels_kept later depth parent (levels_after first below) k high
+      ∙ levels_kept later (depth + 1) (Some x.number) first k (omega arith)
+      ∙ cond-false (k == depth + 1) (Some x.number) (levels k) apart)
+  | inr other ↦ ap (λ lines. levels_after levels lines k) (lines_of-other x later depth parent other) ∙ levels_kept later depth parent levels k high
+]
+
+-- a test for a parent tells it
+number_is : (parent : AllocId) (told : Option AllocId) → is_number parent.0 told ≡ true → told ≡ Some parent
+number_is parent None is = absurd (true≢false (sym is))
+number_is parent (Some p) is = (let same : p.0 ≡ parent.0 = eqb-true p.0 parent.0 is in λ i. Some (record { 0 = same i }))
+
+-- a test for none tells it
+none_is : (told : Option AllocId) → is_none told ≡ true → told ≡ None
+none_is None is = refl
+none_is (Some p) is = absurd (true≢false (sym is))
+
+-- an allocator that passes the test for a parent has it
+parent_is : (parent : Option AllocId) (x : PrintedAllocator) → has_parent parent x ≡ true → x.parent ≡ parent
+parent_is None x child = none_is x.parent child
+parent_is (Some parent) x child = number_is parent x.parent child
+
+-- the lines tell the allocators in their order
+pub read_parents-lines_of : (xs : List PrintedAllocator) (depth : ℕ) (parent : Option AllocId) (levels : ℕ → Option AllocId) → levels depth ≡ parent → read_parents levels (lines_of xs depth parent) ≡ in_line_order xs parent
+read_parents-lines_of [] depth parent levels here = refl
+read_parents-lines_of (x ∷ later) depth parent levels here = elim (cases_Bool (has_parent parent x)) [
+  | inl child ↦ (
+      let first = with_level levels (line_of depth x) in
+      let below = lines_of later (depth + 1) (Some x.number) in
+      let others = lines_of later depth parent in
+      let named : x.parent ≡ parent = parent_is parent x child in
+      let same : allocator_of_line (line_of depth x) (levels depth) ≡ x = ap (allocator_of_line (line_of depth x)) (here ∙ sym named) in
+      let deeper : read_parents first below ≡ in_line_order later (Some x.number) =
+      read_parents-lines_of later (depth + 1) (Some x.number) first (cond-true (depth + 1 == depth + 1) (Some x.number) (levels (depth + 1)) (eq-eqb (depth + 1) (depth + 1) refl)) in
+      let apart : (depth == depth + 1) ≡ false = ne_eqb depth (depth + 1) (λ e. omega arith) in
+      let still : levels_after first below depth ≡ parent =
+      levels_kept later (depth + 1) (Some x.number) first depth (omega arith) ∙ cond-false (depth == depth + 1) (Some x.number) (levels depth) apart ∙ here in
+      let rest : read_parents (levels_after first below) others ≡ in_line_order later parent = read_parents-lines_of later depth parent (levels_after first below) still in
+      let ordered : in_line_order (x ∷ later) parent ≡ x ∷ (in_line_order later (Some x.number) ++ in_line_order later parent) = rw child refl in
+      ap (read_parents levels) (lines_of-child x later depth parent child)
+      ∙ ap (λ zs. allocator_of_line (line_of depth x) (levels depth) ∷ zs) (read_parents-append first below others)
+      ∙ (λ i. same i ∷ (deeper i ++ rest i))
+      ∙ sym ordered)
+  | inr other ↦ (
+      let ordered : in_line_order (x ∷ later) parent ≡ in_line_order later parent = rw other refl in
+      ap (read_parents levels) (lines_of-other x later depth parent other) ∙ read_parents-lines_of later depth parent levels here ∙ sym ordered)
+]
+
+-- so the same lines are of the same allocators
+pub same_line_order : (xs ys : List PrintedAllocator) → lines_of xs 0 None ≡ lines_of ys 0 None → in_line_order xs None ≡ in_line_order ys None
+same_line_order xs ys e =
+    let levels : ℕ → Option AllocId = λ depth. None in
+    sym (read_parents-lines_of xs 0 None levels refl) ∙ ap (read_parents levels) e ∙ read_parents-lines_of ys 0 None levels refl
