@@ -1,5 +1,5 @@
 -- The numbers of a line that was read are in their bounds.
-use Rattle.std.proofs.Common.{◌≡◌, ℕ, ◌<◌, ◌≤◌, Bool, true, false, ◌&&◌, leb, ltb, List, [], ◌∷◌, length, map, All, Option, Some, None, if◌then◌else◌, refl, sym, subst, arith, codes}
+use Rattle.std.proofs.Common.{◌≡◌, ℕ, ◌<◌, ◌≤◌, Bool, true, false, not, ◌&&◌, leb, ltb, List, [], ◌∷◌, length, map, All, Option, Some, None, if◌then◌else◌, refl, sym, subst, arith, codes}
 use Rattle.std.specs.Option.{option_map}
 use Rattle.std.specs.Str.{bytes_eq}
 use Rattle.std.specs.Char.{is_ascii_digit}
@@ -10,9 +10,9 @@ use Rattle.std.specs.Str.Parse.{digits_value}
 use Rattle.std.proofs.lemmas.List.Elements.{All-cons}
 use Rattle.script.specs.declared.form.Form.{Form}
 use Rattle.script.specs.declared.line.Line.{Line}
-use Rattle.script.specs.declared.line.Line.TheVariants.{Root, Child, Buffer, Release, Close, Headroom, Tree}
+use Rattle.script.specs.declared.line.Line.TheVariants.{Root, Child, Buffer, Retain, Transfer, Slice, Release, Close, Headroom, Tree, Report}
 use Rattle.script.specs.Words.{is_name, is_number, name_of, number_of, reservation_of, commands_of}
-use Rattle.script.specs.Grammar.{line_of, child_of, limit_of, lines_of, HasBounds, ScriptParts, IsScript}
+use Rattle.script.specs.Grammar.{line_of, child_of, slice_of, limit_of, lines_of, HasBounds, ScriptParts, IsScript}
 
 -- what is of a choice is of one side
 from_if : {A : Type 0} (P : A → Type 0) (b : Bool) (x y : Option A) (v : A)
@@ -64,12 +64,21 @@ child_bounds name parent (Some r) (Some l) line reserved limited is = from_some 
 child_bounds name parent (Some r) None line reserved limited is = from_none HasBounds line is
 child_bounds name parent None limit line reserved limited is = from_none HasBounds line is
 
+-- and a slice's
+slice_bounds : (name source : List ℕ) (start length : Option ℕ) (line : Line)
+    → ((f : ℕ) → start ≡ Some f → f < 9223372036854775808) → ((l : ℕ) → length ≡ Some l → l < 9223372036854775808)
+    → slice_of name source start length ≡ Some line → HasBounds line
+slice_bounds name source (Some f) (Some l) line started ended is = from_some HasBounds (Slice name source f l) line (started f refl, ended l refl) is
+slice_bounds name source (Some f) None line started ended is = from_none HasBounds line is
+slice_bounds name source None length line started ended is = from_none HasBounds line is
+
 -- those of a line that words say are
 pub line_bounds : (words : List (List ℕ)) (line : Line) → line_of words ≡ Some line → HasBounds line
 unfolding line_of
 line_bounds [] line is = from_none HasBounds line is
 line_bounds (word ∷ []) line is =
-    from_if HasBounds (bytes_eq word (codes "tree")) (Some Tree) None line (from_some HasBounds Tree line tt) (from_none HasBounds line) is
+    from_if HasBounds (bytes_eq word (codes "tree")) (Some Tree) _ line (from_some HasBounds Tree line tt)
+    (from_if HasBounds (bytes_eq word (codes "report")) (Some Report) None line (from_some HasBounds Report line tt) (from_none HasBounds line)) is
 line_bounds (word ∷ other ∷ []) line is =
     let none = from_none HasBounds line in
     let named : (f : List ℕ → Line) → ((name : List ℕ) → HasBounds (f name)) → option_map f (name_of other) ≡ Some line → HasBounds line =
@@ -80,12 +89,22 @@ line_bounds (word ∷ other ∷ []) line is =
     (from_if HasBounds (bytes_eq word (codes "close")) (option_map Close (name_of other)) _ line (named Close (λ name. tt))
     (from_if HasBounds (bytes_eq word (codes "headroom")) (option_map Headroom (name_of other)) None line (named Headroom (λ name. tt)) none))) is
 line_bounds (word ∷ name ∷ at ∷ []) line is = from_none HasBounds line is
-line_bounds (word ∷ name ∷ at ∷ size ∷ []) line is =
-    from_if HasBounds (bytes_eq word (codes "buffer") && is_name name && is_name at) (option_map (Buffer name at) (number_of size)) None line
-    (from_map HasBounds (Buffer name at) (number_of size) line (λ s found. tt)) (from_none HasBounds line) is
-line_bounds (word ∷ name ∷ parent ∷ reservation ∷ limit ∷ []) line is =
-    from_if HasBounds (bytes_eq word (codes "child") && is_name name && is_name parent) (child_of name parent (reservation_of reservation) (number_of limit)) None line
-    (child_bounds name parent (reservation_of reservation) (number_of limit) line (reservation_bound reservation) (number_bound limit)) (from_none HasBounds line) is
+line_bounds (word ∷ name ∷ other ∷ last ∷ []) line is =
+    let none = from_none HasBounds line in
+    let named : (f : List ℕ → Line) → ((at : List ℕ) → HasBounds (f at)) → option_map f (name_of last) ≡ Some line → HasBounds line =
+    λ f free. from_map HasBounds f (name_of last) line (λ at found. free at) in
+    from_if HasBounds (not (is_name name && is_name other)) None _ line none
+    (from_if HasBounds (bytes_eq word (codes "buffer")) (option_map (Buffer name other) (number_of last)) _ line
+    (from_map HasBounds (Buffer name other) (number_of last) line (λ s found. tt))
+    (from_if HasBounds (bytes_eq word (codes "retain")) (option_map (Retain name other) (name_of last)) _ line (named (Retain name other) (λ at. tt))
+    (from_if HasBounds (bytes_eq word (codes "transfer")) (option_map (Transfer name other) (name_of last)) None line (named (Transfer name other) (λ at. tt)) none))) is
+line_bounds (word ∷ name ∷ other ∷ first ∷ last ∷ []) line is =
+    let none = from_none HasBounds line in
+    from_if HasBounds (not (is_name name && is_name other)) None _ line none
+    (from_if HasBounds (bytes_eq word (codes "child")) (child_of name other (reservation_of first) (number_of last)) _ line
+    (child_bounds name other (reservation_of first) (number_of last) line (reservation_bound first) (number_bound last))
+    (from_if HasBounds (bytes_eq word (codes "slice")) (slice_of name other (number_of first) (number_of last)) None line
+    (slice_bounds name other (number_of first) (number_of last) line (number_bound first) (number_bound last)) none)) is
 line_bounds (word ∷ a ∷ b ∷ c ∷ d ∷ e ∷ more) line is = from_none HasBounds line is
 
 -- those of all lines are, where each is said

@@ -1,12 +1,12 @@
 -- What lines of text say, with one line more.
-use Rattle.std.proofs.Common.{◌≡◌, ℕ, ◌<◌, ◌≤◌, List, [], ◌∷◌, ◌++◌, length, drop, map, filter, true, false, cond, Option, None, Some, refl, sym, ap, ◌∙◌, arith, inl, inr, subst, length-append}
+use Rattle.std.proofs.Common.{◌≡◌, ℕ, ◌<◌, ◌≤◌, List, [], ◌∷◌, ◌++◌, length, drop, map, filter, Bool, true, false, cond, Option, None, Some, refl, sym, ap, ◌∙◌, arith, inl, inr, subst, length-append}
 use Rattle.std.specs.List.{All, sum_by, count_by}
 use Rattle.std.proofs.lemmas.List.{map-append}
 use Rattle.std.proofs.lemmas.List.Elements.{filter-append, All-append, All-tail, All-head, All-cons, All-nil}
 use Rattle.std.proofs.lemmas.List.Sums.{sum_by-append, sum_by_push}
 use Rattle.std.proofs.lemmas.Bool.{cases_Bool}
 use Rattle.script.specs.Words.{words_of, is_skipped, commands_of}
-use Rattle.script.specs.Grammar.{line_of, is_root, is_tree, stands_in, Says}
+use Rattle.script.specs.Grammar.{line_of, is_root, is_tree, is_report, stands_in, Says}
 use Rattle.script.specs.Reading.{MayFollow, GoesOn, EndsHere}
 use Rattle.script.specs.declared.form.Form.{Form}
 use Rattle.script.specs.declared.line.Line.{Line}
@@ -53,12 +53,12 @@ RootIsFirst-push [] line h old = All-nil IsNotRoot
 RootIsFirst-push (x ∷ xs) line h old =
     All-push IsNotRoot xs line old (not_root (x ∷ xs) line h (omega arith))
 
--- a tree line comes only where there are few
-count_by-push : (said : List Line) (line : Line) → (is_tree line ≡ true → count_by is_tree said < 1000)
-    → count_by is_tree said ≤ 1000 → count_by is_tree (said ++ line ∷ []) ≤ 1000
-count_by-push said line h old =
-    rw (sum_by_push (λ x. cond (is_tree x) 1 0) said line) (elim (cases_Bool (is_tree line)) [
-      | inl tree ↦ rw tree (omega (arith, h tree))
+-- lines of a kind come only where there are few
+count_by-push : (kind : Line → Bool) (most : ℕ) (said : List Line) (line : Line) → (kind line ≡ true → count_by kind said < most)
+    → count_by kind said ≤ most → count_by kind (said ++ line ∷ []) ≤ most
+count_by-push kind most said line h old =
+    rw (sum_by_push (λ x. cond (kind x) 1 0) said line) (elim (cases_Bool (kind line)) [
+      | inl same ↦ rw same (omega (arith, h same))
       | inr other ↦ rw other (omega (arith, old))
     ])
 
@@ -79,7 +79,8 @@ Says-push form text said line command is may = λ done old. record {
   root_first = RootIsFirst-push said line may.root_first old.root_first;
   in_form = All-push (λ x. stands_in form x ≡ true) said line old.in_form may.in_form;
   few_lines = omega (arith, may.few_lines, length-append said (line ∷ []));
-  few_trees = count_by-push said line may.few_trees old.few_trees;
+  few_trees = count_by-push is_tree 1000 said line may.few_trees old.few_trees;
+  few_reports = count_by-push is_report 16 said line may.few_reports old.few_reports;
 }
 
 -- where each is something, so is the next
@@ -102,12 +103,12 @@ RootIsFirst-at (x ∷ xs) rest line h root =
     let other : is_root line ≡ false = All-at IsNotRoot xs line rest h in
     cc
 
--- a tree line among at most 1,000 has fewer before it
-count_by-at : (said rest : List Line) (line : Line) → count_by is_tree (said ++ line ∷ rest) ≤ 1000
-    → is_tree line ≡ true → count_by is_tree said < 1000
-count_by-at said rest line few tree =
-    let weight : Line → ℕ = λ x. cond (is_tree x) 1 0 in
-    let one : sum_by weight (line ∷ []) ≡ 1 = rw tree in
+-- a line of a kind among few has fewer before it
+count_by-at : (kind : Line → Bool) (most : ℕ) (said rest : List Line) (line : Line) → count_by kind (said ++ line ∷ rest) ≤ most
+    → kind line ≡ true → count_by kind said < most
+count_by-at kind most said rest line few same =
+    let weight : Line → ℕ = λ x. cond (kind x) 1 0 in
+    let one : sum_by weight (line ∷ []) ≡ 1 = rw same in
     omega (arith, few, sum_by-append weight said ((line ∷ []) ++ rest), sum_by-append weight (line ∷ []) rest, one)
 
 -- a line among what is said may follow those before it
@@ -117,7 +118,8 @@ MayFollow-at form text said rest line whole = record {
   root_first = RootIsFirst-at said rest line whole.root_first;
   in_form = All-at (λ x. stands_in form x ≡ true) said line rest whole.in_form;
   few_lines = omega (arith, whole.few_lines, length-append said (line ∷ rest));
-  few_trees = count_by-at said rest line whole.few_trees;
+  few_trees = count_by-at is_tree 1000 said rest line whole.few_trees;
+  few_reports = count_by-at is_report 16 said rest line whole.few_reports;
 }
 
 -- where lines of text go on, the next line says one that may follow

@@ -1,35 +1,47 @@
 -- What a line says, and which lines of text are which script.
-use Rattle.std.specs.Prelude.{◌≡◌, ℕ, ◌-◌, ◌^◌, ◌<◌, ◌≤◌, Bool, true, false, ◌&&◌, List, [], ◌∷◌, ◌++◌, length, map, take, drop, count_by, if◌then◌else◌, Option, Some, None, codes, option_map, All}
+use Rattle.std.specs.Prelude.{◌≡◌, ℕ, ◌-◌, ◌^◌, ◌<◌, ◌≤◌, Bool, true, false, not, ◌&&◌, List, [], ◌∷◌, ◌++◌, length, map, take, drop, count_by, if◌then◌else◌, Option, Some, None, codes, option_map, All}
 use Rattle.std.specs.List.{flat_map}
 use Rattle.std.specs.Str.{bytes_eq}
 use Rattle.script.specs.Words.{is_name, name_of, number_of, reservation_of, commands_of}
 use Rattle.script.specs.declared.form.Form.{Form}
 use Rattle.script.specs.declared.form.Form.TheVariants.{Trace, Drive}
 use Rattle.script.specs.declared.line.Line.{Line}
-use Rattle.script.specs.declared.line.Line.TheVariants.{Root, Child, Buffer, Release, Close, Headroom, Tree}
+use Rattle.script.specs.declared.line.Line.TheVariants.{Root, Child, Buffer, Retain, Transfer, Slice, Release, Close, Headroom, Tree, Report}
 
 -- a line of two names and two numbers, where both are numbers
 abbrev pub child_of : List ℕ → List ℕ → Option ℕ → Option ℕ → Option Line
 child_of name parent (Some reservation) (Some limit) = Some (Child name parent reservation limit)
 child_of name parent reservation limit = None
 
--- what the words of a line say, if they say a line: `tree`; `root LIMIT`, `release NAME`, `close ALLOC`, `headroom ALLOC`;
--- `buffer NAME ALLOC SIZE`; `child NAME PARENT RES LIMIT`
+-- a slice of a source, where both numbers are numbers
+abbrev pub slice_of : List ℕ → List ℕ → Option ℕ → Option ℕ → Option Line
+slice_of name source (Some start) (Some length) = Some (Slice name source start length)
+slice_of name source start length = None
+
+-- what the words of a line say, if they say a line: `tree`, `report`; `root LIMIT`, `release NAME`, `close ALLOC`,
+-- `headroom ALLOC`; `buffer NAME ALLOC SIZE`, `retain NAME SOURCE ALLOC`, `transfer NAME SOURCE ALLOC`;
+-- `child NAME PARENT RES LIMIT`, `slice NAME SOURCE FROM LEN`
 unfoldable pub line_of : List (List ℕ) → Option Line
-line_of (word ∷ []) = if bytes_eq word (codes "tree") then Some Tree else None
+line_of (word ∷ []) =
+    if bytes_eq word (codes "tree") then Some Tree
+    else if bytes_eq word (codes "report") then Some Report
+    else None
 line_of (word ∷ other ∷ []) =
     if bytes_eq word (codes "root") then option_map Root (number_of other)
     else if bytes_eq word (codes "release") then option_map Release (name_of other)
     else if bytes_eq word (codes "close") then option_map Close (name_of other)
     else if bytes_eq word (codes "headroom") then option_map Headroom (name_of other)
     else None
-line_of (word ∷ name ∷ at ∷ size ∷ []) =
-    if bytes_eq word (codes "buffer") && is_name name && is_name at
-    then option_map (Buffer name at) (number_of size)
+line_of (word ∷ name ∷ other ∷ last ∷ []) =
+    if not (is_name name && is_name other) then None
+    else if bytes_eq word (codes "buffer") then option_map (Buffer name other) (number_of last)
+    else if bytes_eq word (codes "retain") then option_map (Retain name other) (name_of last)
+    else if bytes_eq word (codes "transfer") then option_map (Transfer name other) (name_of last)
     else None
-line_of (word ∷ name ∷ parent ∷ reservation ∷ limit ∷ []) =
-    if bytes_eq word (codes "child") && is_name name && is_name parent
-    then child_of name parent (reservation_of reservation) (number_of limit)
+line_of (word ∷ name ∷ other ∷ first ∷ last ∷ []) =
+    if not (is_name name && is_name other) then None
+    else if bytes_eq word (codes "child") then child_of name other (reservation_of first) (number_of last)
+    else if bytes_eq word (codes "slice") then slice_of name other (number_of first) (number_of last)
     else None
 line_of words = None
 
@@ -43,11 +55,17 @@ abbrev pub is_tree : Line → Bool
 is_tree Tree = true
 is_tree line = false
 
+-- a line that asks for a report
+abbrev pub is_report : Line → Bool
+is_report Report = true
+is_report line = false
+
 -- the lines that may stand in a script of this form
 abbrev pub stands_in : Form → Line → Bool
 stands_in Trace line = true
 stands_in Drive (Headroom at) = false
 stands_in Drive Tree = false
+stands_in Drive Report = false
 stands_in Drive line = true
 
 -- the root's limit: that of the root line, which stands first, or else the largest limit
@@ -55,10 +73,11 @@ abbrev pub limit_of : List Line → ℕ
 limit_of (Root limit ∷ more) = limit
 limit_of lines = 9223372036854775807
 
--- the bounds of a line's numbers: a reservation is at most 2 ^ 40, a limit below 2 ^ 63
+-- the bounds of a line's numbers: a reservation is at most 2 ^ 40, a limit and where a slice lies below 2 ^ 63
 abbrev pub HasBounds : Line → Type 0
 HasBounds (Root limit) = limit < 2 ^ 63
 HasBounds (Child name parent reservation limit) = (reservation ≤ 2 ^ 40) × (limit < 2 ^ 63)
+HasBounds (Slice name source start length) = (start < 2 ^ 63) × (length < 2 ^ 63)
 HasBounds line = Unit {0}
 
 -- a script: the root's limit, and its sections
@@ -77,6 +96,7 @@ pub record Says (form : Form) (text : List (List ℕ)) (said : List Line) : Type
   pub in_form : All (λ line. stands_in form line ≡ true) said
   pub few_lines : length said ≤ 1000000
   pub few_trees : count_by is_tree said ≤ 1000
+  pub few_reports : count_by is_report said ≤ 16
 
 -- these lines of text are this script
 pub record IsScript (form : Form) (text : List (List ℕ)) (script : ScriptParts) : Type 0 where

@@ -3,6 +3,7 @@
 
 mod answer;
 mod buffer;
+mod buffers;
 mod form;
 mod line;
 mod name;

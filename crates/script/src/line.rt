@@ -27,6 +27,25 @@ pub enum Line<'a> {
         at: Name<'a>,
         size: u64,
     },
+    /// `retain NAME SOURCE ALLOC`: the allocator that `at` names refers to the source's chunk, without a charge.
+    Retain {
+        name: Name<'a>,
+        source: Name<'a>,
+        at: Name<'a>,
+    },
+    /// `transfer NAME SOURCE ALLOC`: the same, and the charge moves there from the source.
+    Transfer {
+        name: Name<'a>,
+        source: Name<'a>,
+        at: Name<'a>,
+    },
+    /// `slice NAME SOURCE FROM LEN`: a name for a part of the source, in bytes.
+    Slice {
+        name: Name<'a>,
+        source: Name<'a>,
+        start: u64,
+        length: u64,
+    },
     /// `release NAME`: the buffer of that name is given back.
     Release {
         name: Name<'a>,
@@ -41,6 +60,8 @@ pub enum Line<'a> {
     },
     /// `tree`: the tree of allocators is shown.
     Tree,
+    /// `report`: the tree and the live chunks are shown.
+    Report,
 }
 
 /// The line that a line of text says. It takes no memory.
@@ -72,6 +93,8 @@ fn alone<'a>(word: &'a [u8]) -> Option<Line<'a>>
 {
     if is_word(word, "tree") {
         Some(Line::Tree)
+    } else if is_word(word, "report") {
+        Some(Line::Report)
     } else {
         None
     }
@@ -98,44 +121,77 @@ fn with_one<'a>(word: &'a [u8], other: &'a [u8]) -> Option<Line<'a>>
     }
 }
 
-// The line of a word and three more.
+// The line of a word and three more, of which the first two are names.
 #[tactic(auto, unfolding(crate::specs::Grammar::line_of))]
-fn with_three<'a>(word: &'a [u8], name: &'a [u8], at: &'a [u8], size: &'a [u8]) -> Option<Line<'a>>
-    ensures { result ≡ line_of (word.now ∷ name.now ∷ at.now ∷ size.now ∷ []) }
+fn with_three<'a>(
+    word: &'a [u8],
+    name: &'a [u8],
+    other: &'a [u8],
+    last: &'a [u8],
+) -> Option<Line<'a>>
+    ensures { result ≡ line_of (word.now ∷ name.now ∷ other.now ∷ last.now ∷ []) }
 {
-    if !is_word(word, "buffer") {
-        return None;
-    }
     let name = Name::new(name)?;
-    let at = Name::new(at)?;
-    let size = number_of(size)?;
-    Some(Line::Buffer { name, at, size })
+    let other = Name::new(other)?;
+    if is_word(word, "buffer") {
+        let size = number_of(last)?;
+        return Some(Line::Buffer {
+            name,
+            at: other,
+            size,
+        });
+    }
+    let at = Name::new(last)?;
+    if is_word(word, "retain") {
+        Some(Line::Retain {
+            name,
+            source: other,
+            at,
+        })
+    } else if is_word(word, "transfer") {
+        Some(Line::Transfer {
+            name,
+            source: other,
+            at,
+        })
+    } else {
+        None
+    }
 }
 
-// The line of a word and four more.
+// The line of a word and four more, of which the first two are names.
 #[tactic(auto, unfolding(crate::specs::Grammar::line_of))]
 fn with_four<'a>(
     word: &'a [u8],
     name: &'a [u8],
-    parent: &'a [u8],
-    reservation: &'a [u8],
-    limit: &'a [u8],
+    other: &'a [u8],
+    first: &'a [u8],
+    last: &'a [u8],
 ) -> Option<Line<'a>>
-    ensures { result
-        ≡ line_of (word.now ∷ name.now ∷ parent.now ∷ reservation.now ∷ limit.now ∷ []) }
+    ensures { result ≡ line_of (word.now ∷ name.now ∷ other.now ∷ first.now ∷ last.now ∷ []) }
 {
-    if !is_word(word, "child") {
+    let name = Name::new(name)?;
+    let other = Name::new(other)?;
+    if is_word(word, "child") {
+        let reservation = reservation_of(first)?;
+        let limit = number_of(last)?;
+        return Some(Line::Child {
+            name,
+            parent: other,
+            reservation,
+            limit,
+        });
+    }
+    if !is_word(word, "slice") {
         return None;
     }
-    let name = Name::new(name)?;
-    let parent = Name::new(parent)?;
-    let reservation = reservation_of(reservation)?;
-    let limit = number_of(limit)?;
-    Some(Line::Child {
+    let start = number_of(first)?;
+    let length = number_of(last)?;
+    Some(Line::Slice {
         name,
-        parent,
-        reservation,
-        limit,
+        source: other,
+        start,
+        length,
     })
 }
 

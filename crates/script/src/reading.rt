@@ -13,23 +13,27 @@ const MAX_LINES: usize = 1_000_000;
 
 const MAX_TREES: usize = 1_000;
 
+const MAX_REPORTS: usize = 16;
+
 /// The lines that were read so far, seen as the list of them.
 #[derive(Drop)]
 pub(crate) struct Reading<'a> {
     lines: Vec<Line<'a>>,
     trees: usize,
+    reports: usize,
 }
 
 impl<'a> Model for Reading<'a> {
     ghost use Rattle.std.specs.Prelude.{◌≡◌, List, count_by};
     ghost use Rattle.script.specs.declared.line.Line.{Line as AnyLine};
-    ghost use Rattle.script.specs.Grammar.{is_tree};
+    ghost use Rattle.script.specs.Grammar.{is_tree, is_report};
 
     ghost Value = { List AnyLine };
 
     ghost view = { λ reading. reading.lines.items };
 
-    ghost invariant = { λ reading. reading.trees ≡ count_by is_tree reading.lines.items };
+    ghost invariant = { λ reading. (reading.trees ≡ count_by is_tree reading.lines.items)
+        × (reading.reports ≡ count_by is_report reading.lines.items) };
 }
 
 impl<'a> Reading<'a> {
@@ -39,6 +43,7 @@ impl<'a> Reading<'a> {
         Reading {
             lines: Vec::new(alloc),
             trees: 0,
+            reports: 0,
         }
     }
 
@@ -65,9 +70,13 @@ impl<'a> Reading<'a> {
             return Ok(false);
         }
         let is_tree = matches!(line, Line::Tree);
+        let is_report = matches!(line, Line::Report);
         self.lines.push(line)?;
         if is_tree {
             self.trees += 1;
+        }
+        if is_report {
+            self.reports += 1;
         }
         Ok(true)
     }
@@ -80,8 +89,12 @@ impl<'a> Reading<'a> {
                 Line::Root { .. } => self.lines.is_empty(),
                 Line::Headroom { .. } => matches!(form, Form::Trace),
                 Line::Tree => matches!(form, Form::Trace) && self.trees < MAX_TREES,
+                Line::Report => matches!(form, Form::Trace) && self.reports < MAX_REPORTS,
                 Line::Child { .. }
                 | Line::Buffer { .. }
+                | Line::Retain { .. }
+                | Line::Transfer { .. }
+                | Line::Slice { .. }
                 | Line::Release { .. }
                 | Line::Close { .. } => true,
             }
@@ -91,7 +104,7 @@ impl<'a> Reading<'a> {
     pub fn finish(self, alloc: Global) -> Result<Script<'a>, AllocError>
         ensures { IfOk result (λ script. script ≡ script_of self.entry) }
     {
-        let Reading { lines, trees: _ } = self;
+        let Reading { lines, .. } = self;
         Script::new(alloc, lines)
     }
 }

@@ -5,8 +5,11 @@ mod child;
 mod grant;
 mod look;
 mod release;
+mod retain;
+mod slice;
+mod transfer;
 
-use crate::buffer::Buffers;
+use crate::buffers::Buffers;
 use crate::line::Line;
 use alloc_tree::{Names, SoloTree};
 use std::alloc::{AllocError, Global};
@@ -62,10 +65,19 @@ impl<'a> Trace<'a> {
                 limit,
             } => self.child(name, parent, *reservation, *limit, text),
             Line::Buffer { name, at, size } => self.buffer(name, at, *size, text),
+            Line::Retain { name, source, at } => self.retain(name, source, at, text),
+            Line::Transfer { name, source, at } => self.transfer(name, source, at, text),
+            Line::Slice {
+                name,
+                source,
+                start,
+                length,
+            } => self.slice(name, source, *start, *length, text),
             Line::Release { name } => self.release(name, text),
             Line::Close { at } => self.close(at, text),
             Line::Headroom { at } => self.headroom(at, text),
             Line::Tree => self.show(alloc, text),
+            Line::Report => self.report(alloc, text),
         }
     }
 }

@@ -38,10 +38,21 @@ fn show(section: &Section, shown: &mut String) -> Result<(), AllocError> {
                 limit,
             } => write!(shown, " child {name} {parent} {reservation} {limit};")?,
             Line::Buffer { name, at, size } => write!(shown, " buffer {name} {at} {size};")?,
+            Line::Retain { name, source, at } => write!(shown, " retain {name} {source} {at};")?,
+            Line::Transfer { name, source, at } => {
+                write!(shown, " transfer {name} {source} {at};")?;
+            }
+            Line::Slice {
+                name,
+                source,
+                start,
+                length,
+            } => write!(shown, " slice {name} {source} {start} {length};")?,
             Line::Release { name } => write!(shown, " release {name};")?,
             Line::Close { at } => write!(shown, " close {at};")?,
             Line::Headroom { at } => write!(shown, " headroom {at};")?,
             Line::Tree => write!(shown, " tree;")?,
+            Line::Report => write!(shown, " report;")?,
         }
     }
     Ok(())
@@ -60,6 +71,15 @@ fn a_script_is_its_lines_in_order(rt: HostRuntime) -> Result<(), Fail> {
             "child c ROOT 5 0\nheadroom c\nrelease a\nclose ROOT\nchild ROOT c 0 7",
             "9223372036854775807: child c ROOT 5 0; headroom c; release a; close ROOT; child ROOT c 0 7;",
         ),
+        (
+            "retain b a c\ntransfer d b ROOT\nslice s d 007 9223372036854775807\nreport",
+            "9223372036854775807: retain b a c; transfer d b ROOT; slice s d 7 9223372036854775807; report;",
+        ),
+        ("retain b a\n", "line 1"),
+        ("transfer b a c/d\n", "line 1"),
+        ("slice s a -1 2\n", "line 1"),
+        ("slice s a 1 9223372036854775808\n", "line 1"),
+        ("report all\n", "line 1"),
     ] {
         assert_eq!(rt; trace(rt.alloc(), text)?.as_str(), want, "at {text:?}");
     }
@@ -234,11 +254,11 @@ fn a_root_line_stands_first_and_once(rt: HostRuntime) -> Result<(), Fail> {
     Ok(())
 }
 
-// That many lines `tree`.
-fn trees(alloc: Global, count: usize) -> Result<Vec<u8>, AllocError> {
+// The same line that many times.
+fn repeated(alloc: Global, line: &[u8], count: usize) -> Result<Vec<u8>, AllocError> {
     let mut text = Vec::new(alloc);
     for _ in 0..count {
-        text.extend_from_slice(b"tree\n")?;
+        text.extend_from_slice(line)?;
     }
     Ok(text)
 }
@@ -246,23 +266,37 @@ fn trees(alloc: Global, count: usize) -> Result<Vec<u8>, AllocError> {
 #[test]
 fn a_trace_has_at_most_1000_tree_lines(rt: HostRuntime) -> Result<(), Fail> {
     let alloc = rt.alloc();
-    let most = trees(alloc, 1000)?;
+    let most = repeated(alloc, b"tree\n", 1000)?;
     let script = read_script(alloc, &most, Form::Trace)?;
     assert_eq!(rt; script.sections().len(), 1);
     for section in script.sections() {
         assert_eq!(rt; section.lines().len(), 1000);
     }
-    let more = trees(alloc, 1001)?;
+    let more = repeated(alloc, b"tree\n", 1001)?;
     assert_eq!(rt; read(alloc, &more, Form::Trace)?.as_str(), "line 1001");
     Ok(())
 }
 
 #[test]
-fn a_drive_has_no_tree_and_no_headroom_line(rt: HostRuntime) -> Result<(), Fail> {
+fn a_trace_has_at_most_16_report_lines(rt: HostRuntime) -> Result<(), Fail> {
+    let alloc = rt.alloc();
+    let most = repeated(alloc, b"report\n# tree\n", 16)?;
+    let script = read_script(alloc, &most, Form::Trace)?;
+    for section in script.sections() {
+        assert_eq!(rt; section.lines().len(), 16);
+    }
+    let more = repeated(alloc, b"report\n", 17)?;
+    assert_eq!(rt; read(alloc, &more, Form::Trace)?.as_str(), "line 17");
+    Ok(())
+}
+
+#[test]
+fn a_drive_has_no_tree_no_report_and_no_headroom_line(rt: HostRuntime) -> Result<(), Fail> {
     for (text, want) in [
         ("root 5\nbuffer a ROOT 1", "5: root 5; buffer a ROOT 1;"),
         ("root 5\ntree\n", "line 2"),
         ("headroom ROOT\n", "line 1"),
+        ("report\n", "line 1"),
         ("# tree\n", "9223372036854775807:"),
         (
             "child c ROOT 0 9\nbuffer a c 1\nrelease a\nclose c\n",

@@ -4,6 +4,8 @@ use mem_model::PlainTree;
 use mem_num::{AllocId, Placed};
 use std::test::Fail;
 
+mod references;
+
 // What a trace prints, or why it wasn't run.
 fn printed(alloc: Global, script: &str) -> Result<String, Fail> {
     let mut out = Vec::new(alloc);

@@ -1,11 +1,12 @@
 //! Asking for a buffer.
-ghost use Rattle.std.specs.Prelude.{◌≡◌, OnOk, string_bytes};
+ghost use Rattle.std.specs.Prelude.{◌≡◌, ◌<◌, ◌^◌, false, IfOk, OnOk, is_some, string_bytes};
 ghost use Rattle.script.specs.declared.line.Line.TheVariants as line;
+ghost use Rattle.script.specs.Buffers.{buffer_of};
 ghost use Rattle.script.specs.Trace.{buffers_after};
 ghost use Rattle.script.specs.Shown.{PrintsLine, HasNumbers, DrawsNumbers};
 
 use crate::answer::{write_buffer, write_taken, write_unknown};
-use crate::buffer::{Buffer, Buffers};
+use crate::buffers::Buffers;
 use crate::name::Name;
 use crate::trace::Trace;
 use mem_num::{BufferRefused, Ref};
@@ -26,7 +27,7 @@ impl<'a> Trace<'a> {
             (line.Buffer name.now at.now size)) }
         ensures draws { OnOk result (DrawsNumbers self.old.tree.state self.new.tree.state 1) }
     {
-        if self.buffers.find(name).is_some() {
+        if self.buffers.is_bound(name) {
             return write_taken(text, name);
         }
         let Some(id) = self.names.find(at.as_str()) else {
@@ -44,14 +45,12 @@ fn bind<'a>(
     name: &Name<'a>,
     answer: Result<Ref, BufferRefused>,
 ) -> Result<(), AllocError>
+    requires free { is_some (buffer_of buffers.old.bound name.now) ≡ false }
+    requires small { IfOk answer (λ reference. reference.size < 2 ^ 63) }
     ensures { OnOk result (buffers.new ≡ buffers_after buffers.old name.now answer) }
 {
-    let Ok(reference) = answer else {
-        return Ok(());
-    };
-    let buffer = Buffer {
-        reference,
-        given_back: false,
-    };
-    buffers.bind(name, buffer)
+    match answer {
+        Ok(reference) => buffers.give(name, reference, 0, reference.size),
+        Err(_) => Ok(()),
+    }
 }

@@ -6,7 +6,7 @@ ghost use Rattle.script.specs.Shown.{PrintsLine, DrawsNumbers};
 use crate::answer::{write_close, write_headroom, write_unknown};
 use crate::name::Name;
 use crate::trace::Trace;
-use leak_report::tree_text;
+use leak_report::{report_text, tree_text};
 use std::alloc::{AllocError, Global};
 use std::slice;
 
@@ -15,7 +15,7 @@ impl<'a> Trace<'a> {
     pub(crate) fn close(&mut self, at: &Name, text: &mut String) -> Result<(), AllocError>
         ensures prints { OnOk result
             (PrintsLine self.old self.new (string_bytes text.old) (string_bytes text.new) (line.Close at.now)) }
-        ensures draws { OnOk result (DrawsNumbers self.old.tree.state self.new.tree.state 0) }
+        ensures draws { OnOk result (DrawsNumbers self.old.tree.state self.new.tree.state 1) }
     {
         let Some(id) = self.names.find(at.as_str()) else {
             return write_unknown(text, at);
@@ -42,6 +42,16 @@ impl<'a> Trace<'a> {
             (PrintsLine self.now self.now (string_bytes text.old) (string_bytes text.new) line.Tree) }
     {
         let Ok(shown) = tree_text(alloc, &self.tree, slice::from_ref(&self.names)) else {
+            return Err(AllocError);
+        };
+        text.push_str(&shown)
+    }
+
+    pub(crate) fn report(&self, alloc: Global, text: &mut String) -> Result<(), AllocError>
+        ensures { OnOk result
+            (PrintsLine self.now self.now (string_bytes text.old) (string_bytes text.new) line.Report) }
+    {
+        let Ok(shown) = report_text(alloc, &self.tree, slice::from_ref(&self.names)) else {
             return Err(AllocError);
         };
         text.push_str(&shown)

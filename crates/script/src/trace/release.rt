@@ -1,55 +1,48 @@
 //! Giving a buffer back.
-ghost use Rattle.std.specs.Prelude.{◌≡◌, OnOk, string_bytes};
+ghost use Rattle.std.specs.Prelude.{◌≡◌, ◌<◌, OnOk, length, string_bytes};
 ghost use Rattle.script.specs.declared.line.Line.TheVariants as line;
 ghost use Rattle.script.specs.Trace.{release_line};
 ghost use Rattle.script.specs.Shown.{Prints, PrintsLine, DrawsNumbers};
 
-use crate::answer::{write_empty, write_release, write_unknown};
-use crate::buffer::Buffer;
+use crate::answer::{write_empty, write_given_back, write_release, write_unknown};
+use crate::buffer::{Buffer, GivenRef};
 use crate::name::Name;
 use crate::trace::Trace;
-use mem_num::{Ref, Released};
 use std::alloc::AllocError;
 
 impl<'a> Trace<'a> {
-    /// Gives the buffer back that has this name.
     pub(crate) fn release(&mut self, name: &Name<'a>, text: &mut String) -> Result<(), AllocError>
         ensures prints { OnOk result
             (PrintsLine self.old self.new (string_bytes text.old) (string_bytes text.new) (line.Release name.now)) }
-        ensures draws { OnOk result (DrawsNumbers self.old.tree.state self.new.tree.state 0) }
+        ensures draws { OnOk result (DrawsNumbers self.old.tree.state self.new.tree.state 1) }
     {
-        match self.buffers.find(name) {
-            Some(buffer) => self.release_buffer(name, buffer, text),
+        match self.buffers.source(name) {
+            Some((buffer, given)) => self.release_buffer(name, buffer, given, text),
             None => write_unknown(text, name),
         }
     }
 
-    // Gives the buffer back that the name is bound to.
+    // Gives back the reference of the buffer that the name is bound to. Whatever the tree answers, it was given back then.
     fn release_buffer(
         &mut self,
         name: &Name<'a>,
-        buffer: Buffer,
+        source: Buffer,
+        given: GivenRef,
         text: &mut String,
     ) -> Result<(), AllocError>
-        ensures prints { OnOk result
-            (Prints self.old self.new (string_bytes text.old) (string_bytes text.new) (λ state.
-            release_line state name.now buffer)) }
-        ensures draws { OnOk result (DrawsNumbers self.old.tree.state self.new.tree.state 0) }
+        requires within { source.place < length self.old.buffers.given }
+        ensures prints { OnOk result (Prints self.old self.new (string_bytes text.old) (string_bytes text.new)
+            (λ state. release_line state name.now source given)) }
+        ensures draws { OnOk result (DrawsNumbers self.old.tree.state self.new.tree.state 1) }
     {
-        let reference = buffer.reference;
-        let Ref { chunk, alloc, .. } = reference;
-        if chunk == 0 {
-            return write_empty(text, name);
+        if given.reference.chunk == 0 {
+            return write_empty(text, "release", name);
         }
-        if buffer.given_back {
-            return write_release(text, name, Err(Released { chunk, alloc }));
+        if given.given_back {
+            return write_given_back(text, given.reference);
         }
-        let answer = self.tree.release(reference);
-        let released = Buffer {
-            reference,
-            given_back: true,
-        };
-        self.buffers.bind(name, released)?;
+        let answer = self.tree.release(given.reference);
+        self.buffers.give_back(source.place, given);
         write_release(text, name, answer)
     }
 }

@@ -1,9 +1,12 @@
--- The call draws at most one number.
+-- The call draws at most one number, and what it gives isn't large.
 use Rattle.std.proofs.Common.{subst, sym}
 use Rattle.std.proofs.lemmas.Result.{on_ok_weaker}
 use Rattle.script.specs.Shown.{DrawsNumbers}
-use Rattle.script.proofs.NumberLemmas.{grant_draws}
+use Rattle.script.proofs.NumberLemmas.{grant_draws, granted_small}
 use Rattle.script.proofs.trace.Trace.buffer.Goals as goal
+
+pub bind-requires-clause-small : goal.bind-requires-clause-small
+bind-requires-clause-small c = granted_small c.args.self.now.tree.state c.in-Some.id c.args.size c.grant-answer.result c.grant-answer.ensures.answer
 
 pub returns-clause-draws : goal.returns-clause-draws
 returns-clause-draws c =

@@ -1,4 +1,4 @@
--- The call draws at most no number.
+-- The call draws at most one number.
 use Rattle.std.proofs.Common.{subst, sym}
 use Rattle.std.proofs.lemmas.Result.{on_ok_weaker}
 use Rattle.script.specs.Shown.{DrawsNumbers}
@@ -7,4 +7,4 @@ use Rattle.script.proofs.trace.Trace.release_buffer.Goals as goal
 
 pub returns-clause-draws : goal.returns-clause-draws
 returns-clause-draws c =
-    on_ok_weaker _ (λ _. subst (λ tree. DrawsNumbers c.args.self.now.tree.state tree 0) (sym c.release-answer.ensures.after.state) (release_draws _ c.args.buffer.reference)) c.write_release-2.ensures
+    on_ok_weaker _ (λ _. subst (λ tree. DrawsNumbers c.args.self.now.tree.state tree 1) (sym c.release-answer.ensures.after.state) (release_draws _ c.args.given.reference)) c.write_release.ensures

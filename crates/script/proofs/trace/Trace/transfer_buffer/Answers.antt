@@ -1,0 +1,13 @@
+-- The call draws at most one number, and adds at most one reference.
+use Rattle.std.proofs.Common.{subst, sym}
+use Rattle.std.proofs.lemmas.Result.{on_ok_weaker}
+use Rattle.script.specs.Shown.{DrawsNumbers}
+use Rattle.script.proofs.NumberLemmas.{transfer_draws, numbers-room}
+use Rattle.script.proofs.trace.Trace.transfer_buffer.Goals as goal
+
+pub transfer-answer-requires : goal.transfer-answer-requires
+transfer-answer-requires c = record { room = numbers-room c.args.self.now.tree.state c.args.given.reference c.requires.numbers }
+
+pub returns-clause-draws : goal.returns-clause-draws
+returns-clause-draws c =
+    on_ok_weaker _ (λ given. subst (λ tree. DrawsNumbers c.args.self.now.tree.state tree 1) (sym (c.transfer-answer.ensures.after given).state) (transfer_draws _ c.args.given.reference c.args.at)) c.write_transfer.ensures.memory
