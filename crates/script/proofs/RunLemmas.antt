@@ -1,79 +1,72 @@
--- Lines and sections that are run one after another.
-use Rattle.std.proofs.Common.{◌≡◌, ℕ, All, arith, suc, ◌+◌, ◌<◌, List, [], ◌∷◌, ◌++◌, length, get_or, drop, sym, ap, subst, ◌∙◌, add-one, append_assoc}
-use Rattle.std.specs.List.{flat_map}
-use Rattle.std.proofs.Math.Seq.{drop-cons}
-use Rattle.std.proofs.lemmas.List.{append-nil, length-append, get_or_append_left, get_or-append-add}
+-- Lines that are run one after another.
+use Rattle.std.proofs.Common.{◌≡◌, ℕ, List, [], ◌∷◌, ◌++◌, refl, sym, ap, subst, ◌∙◌, arith, append_assoc, length-append}
+use Rattle.std.proofs.lemmas.List.{append-nil}
+use Rattle.script.specs.declared.form.Form.{Form}
 use Rattle.script.specs.declared.line.Line.{Line}
+use Rattle.script.specs.declared.line.Line.TheVariants.{Root}
+use Rattle.script.specs.declared.running.Running.{Running}
 use Rattle.script.specs.declared.trace.Trace.{Trace}
-use Rattle.script.specs.Trace.{TraceState, line_result, text_of, state_after}
-use Rattle.script.specs.Shown.{IsAt, Prints}
+use Rattle.script.specs.Count.{Counts}
+use Rattle.script.specs.Grammar.{limit_of, lines_of, Says, ScriptParts, IsScript}
+use Rattle.script.specs.Reading.{MayFollow, script_of}
+use Rattle.script.specs.Running.{HasCome, HasRun, printed_by}
+use Rattle.script.specs.Shown.{IsAt, HasNumbers, DrawsNumbers, PrintsLine}
+use Rattle.script.specs.Trace.{line_result, opened_trace, text_of, state_after, trace_text}
+use Rattle.script.proofs.NumberLemmas.{draws_nothing, numbers-left}
 use Rattle.script.proofs.TraceLemmas.{text_of-append, state_after-append}
 
--- a trace has come to where the lines left print the rest of the whole, and lead to the end
-pub record Reaches (trace : Trace) (out : List ℕ) (left : List Line) (whole : List ℕ) (end : TraceState) : Type 0 where
-  pub now : TraceState
-  pub here : IsAt trace now
-  pub rest : out ++ text_of now left ≡ whole
-  pub last : state_after now left ≡ end
+-- what the first line sets stays set
+limit-first : (first : Line) (said more : List Line) → limit_of (first ∷ said ++ more) ≡ limit_of (first ∷ said)
+limit-first (Root limit) said more = refl
+limit-first _ said more = refl
 
--- so it has once a line more was run
-pub reaches-line : (old new : Trace) (out out' before after whole : List ℕ) (line : Line) (left rest : List Line) (end : TraceState)
-    → left ≡ line ∷ rest
-    → Prints old new before after (λ state. line_result state line) → before ≡ [] → out' ≡ out ++ after
-    → Reaches old out left whole end → Reaches new out' rest whole end
-reaches-line old new out out' before after whole line left rest end split prints none grown old_reach =
-    let now = old_reach.now in
-    let printed = prints now old_reach.here in
-    let next = (line_result now line).state in
-    let text : after ≡ (line_result now line).text = printed.0 ∙ ap (λ b. b ++ (line_result now line).text) none in
+-- what lines print doesn't depend on the limit that one more sets, since that is then the first
+printed_before : (said : List Line) (line : Line) → text_of (opened_trace (limit_of (said ++ line ∷ []))) said ≡ printed_by said
+printed_before [] line = refl
+printed_before (first ∷ said) line = ap (λ limit. text_of (opened_trace limit) (first ∷ said)) (limit-first first said (line ∷ []))
+
+-- what lines print with one more
+printed-push : (said : List Line) (line : Line)
+    → printed_by (said ++ line ∷ []) ≡ printed_by said ++ (line_result (state_after (opened_trace (limit_of (said ++ line ∷ []))) said) line).text
+printed-push said line =
+    let start = opened_trace (limit_of (said ++ line ∷ [])) in
+    text_of-append start said (line ∷ [])
+    ∙ ap (λ text. text_of start said ++ text) (append-nil (line_result (state_after start said) line).text)
+    ∙ ap (λ text. text ++ (line_result (state_after start said) line).text) (printed_before said line)
+
+-- a line more was run
+pub one_more_run : (form : Form) (said : List Line) (line : Line) (before out earlier text : List ℕ) (opened : Trace) (running : Running)
+    → HasCome opened (said ++ line ∷ []) said → MayFollow form said line → Counts (said ++ line ∷ []) running.count
+    → earlier ≡ [] → PrintsLine opened running.trace earlier text line → DrawsNumbers opened.tree.state running.trace.tree.state 1
+    → out ≡ before ++ printed_by said → HasRun running (said ++ line ∷ []) before (out ++ text)
+one_more_run form said line before out earlier text opened running come may counted none prints draws printed =
+    let start = opened_trace (limit_of (said ++ line ∷ [])) in
+    let now = state_after start said in
+    let done = prints now come.here in
+    let added : text ≡ (line_result now line).text = done.0 ∙ ap (λ e. e ++ (line_result now line).text) none in
+    let lengths = length-append said (line ∷ []) in
     record {
-      now = next;
-      here = printed.1;
-      rest = ap (λ o. o ++ text_of next rest) (grown ∙ ap (λ t. out ++ t) text) ∙ append_assoc out (line_result now line).text (text_of next rest)
-          ∙ ap (λ ls. out ++ text_of now ls) (sym split) ∙ old_reach.rest;
-      last = ap (state_after now) (sym split) ∙ old_reach.last;
+      counted = counted;
+      come = record {
+        here = subst (IsAt running.trace) (sym (state_after-append start said (line ∷ []))) done.1;
+        numbers = numbers-left _ _ 1 _ _ come.numbers draws (omega (arith, may.few_lines, lengths));
+      };
+      printed = ap (λ o. o ++ text) printed ∙ append_assoc before (printed_by said) text
+          ∙ ap (λ t. before ++ t) (ap (λ t. printed_by said ++ t) added ∙ sym (printed-push said line));
     }
 
--- where no lines are left, all is printed, and the end is reached
-pub reaches-text : (trace : Trace) (out whole : List ℕ) (left : List Line) (end : TraceState)
-    → left ≡ [] → Reaches trace out left whole end → out ≡ whole
-reaches-text trace out whole left end none reach = sym (append-nil out) ∙ ap (λ ls. out ++ text_of reach.now ls) (sym none) ∙ reach.rest
+-- there are numbers for a line that may follow
+pub numbers_for_one : (form : Form) (opened : Trace) (all said : List Line) (line : Line) → HasCome opened all said → MayFollow form said line → HasNumbers opened.tree.state 1
+numbers_for_one form opened all said line come may = numbers-left _ _ 0 1 _ come.numbers (draws_nothing _ 0) (omega (arith, may.few_lines))
 
-pub reaches-end : (trace : Trace) (out whole : List ℕ) (left : List Line) (end : TraceState)
-    → left ≡ [] → Reaches trace out left whole end → IsAt trace end
-reaches-end trace out whole left end none reach = subst (IsAt trace) (ap (state_after reach.now) (sym none) ∙ reach.last) reach.here
-
--- the lines of some sections, in order
-abbrev pub joined : List (List Line) → List Line
-joined sections = flat_map (λ section. section) sections
-
--- the lines from the section at i on
-pub joined-drop : (sections : List (List Line)) (i : ℕ) (d lines : List Line)
-    → i < length sections → lines ≡ get_or sections i d → joined (drop i sections) ≡ lines ++ joined (drop (i + 1) sections)
-joined-drop sections i d lines within is =
-    ap joined (drop-cons sections i d within) ∙ ap (λ first. first ++ joined (drop (suc i) sections)) (sym is) ∙ ap (λ j. lines ++ joined (drop j sections)) (sym (add-one i))
-
--- so it has once some lines more were run
-pub reaches-lines : (old new : Trace) (out out' whole : List ℕ) (lines rest left : List Line) (end : TraceState)
-    → left ≡ lines ++ rest
-    → ((state : TraceState) → IsAt old state → out' ≡ out ++ text_of state lines)
-    → ((state : TraceState) → IsAt old state → IsAt new (state_after state lines))
-    → Reaches old out left whole end → Reaches new out' rest whole end
-reaches-lines old new out out' whole lines rest left end split text after reach =
-    let now = reach.now in
-    let next = state_after now lines in
-    record {
-      now = next;
-      here = after now reach.here;
-      rest = ap (λ xs. xs ++ text_of next rest) (text now reach.here) ∙ append_assoc out (text_of now lines) (text_of next rest)
-          ∙ ap (λ xs. out ++ xs) (sym (text_of-append now lines rest)) ∙ ap (λ ls. out ++ text_of now ls) (sym split) ∙ reach.rest;
-      last = sym (state_after-append now lines rest) ∙ ap (state_after now) (sym split) ∙ reach.last;
-    }
-
--- what holds of all of two lists holds of all of the one
-pub All-prefix : {X : Type 0} (P : X → Type 0) (xs ys : List X) → All P (xs ++ ys) → All P xs
-All-prefix P xs ys all k d within = subst P (get_or_append_left xs ys d k within) (all k d (omega (arith, length-append xs ys)))
-
--- and of the other
-pub All-suffix : {X : Type 0} (P : X → Type 0) (xs ys : List X) → All P (xs ++ ys) → All P ys
-All-suffix P xs ys all k d within = subst P (get_or-append-add xs ys k d) (all (length xs + k) d (omega (arith, length-append xs ys)))
+-- where no text is left, the lines that were run are a script, and its text is printed
+pub whole_is_run : (form : Form) (whole done : List (List ℕ)) (said : List Line) (running : Running) (before out : List ℕ)
+    → whole ≡ done ++ [] → Says form done said → HasRun running said before out
+    → (script : ScriptParts) × IsScript form whole script × (out ≡ before ++ trace_text script)
+whole_is_run form whole done said running before out split says ran =
+    let same : lines_of (script_of said) ≡ said = append-nil said in
+    let all' : Says form whole said = subst (λ text. Says form text said) (sym (split ∙ append-nil done)) says in (
+      script_of said,
+      record { lines = subst (Says form whole) (sym same) all'; one_section = ap (λ lines. lines ∷ []) (sym same); limit = ap limit_of (sym same) },
+      ran.printed ∙ ap (λ lines. before ++ text_of (opened_trace (limit_of said)) lines) (sym same),
+    )

@@ -71,6 +71,17 @@ commands_of-push done more text command =
     ∙ ap (λ commands. commands_of done ++ commands) (commands_of-cons text more command))
     ∙ map-append line_of (commands_of done) (words_of text ∷ commands_of more)
 
+-- no text says no line
+pub Says-nothing : (form : Form) → Says form [] []
+Says-nothing form = record {
+  each = refl;
+  root_first = All-nil IsNotRoot;
+  in_form = All-nil (λ line. stands_in form line ≡ true);
+  few_lines = omega arith;
+  few_trees = omega arith;
+  few_reports = omega arith;
+}
+
 -- a line that may follow is said
 pub Says-push : (form : Form) (text : List ℕ) (said : List Line) (line : Line) → is_skipped (words_of text) ≡ false
     → line_of (words_of text) ≡ Some line → MayFollow form said line → GoesOn form text said (said ++ line ∷ [])

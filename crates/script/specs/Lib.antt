@@ -2,8 +2,10 @@
 pub mod Words
 pub mod Grammar
 pub mod Reading
+pub mod Count
 pub mod Answers
 pub mod Bound
 pub mod Buffers
 pub mod Trace
 pub mod Shown
+pub mod Running

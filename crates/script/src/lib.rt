@@ -4,6 +4,7 @@
 mod answer;
 mod buffer;
 mod buffers;
+mod count;
 mod form;
 mod line;
 mod name;
@@ -11,6 +12,7 @@ mod read;
 mod reading;
 mod refused;
 mod run;
+mod running;
 mod script;
 mod section;
 mod text;

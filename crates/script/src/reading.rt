@@ -1,39 +1,31 @@
 //! A script that is being read, line after line.
-ghost use Rattle.std.specs.Prelude.{◌≡◌, ◌↔◌, [], ◌∷◌, ◌++◌, true, false, IsTrue, IfOk};
-ghost use Rattle.script.specs.Reading.{MayFollow, GoesOn, EndsHere, script_of};
+ghost use Rattle.std.specs.Prelude.{◌≡◌, [], true, false, IfOk};
+ghost use Rattle.script.specs.Reading.{GoesOn, EndsHere, script_of};
 
+use crate::count::{Count, TextLine};
 use crate::form::Form;
-use crate::line::{Line, line_in};
+use crate::line::Line;
 use crate::script::Script;
-use crate::word::is_skipped;
 use std::alloc::{AllocError, Global};
 use std::marker::Model;
-
-const MAX_LINES: usize = 1_000_000;
-
-const MAX_TREES: usize = 1_000;
-
-const MAX_REPORTS: usize = 16;
 
 /// The lines that were read so far, seen as the list of them.
 #[derive(Drop)]
 pub(crate) struct Reading<'a> {
     lines: Vec<Line<'a>>,
-    trees: usize,
-    reports: usize,
+    count: Count,
 }
 
 impl<'a> Model for Reading<'a> {
-    ghost use Rattle.std.specs.Prelude.{◌≡◌, List, count_by};
+    ghost use Rattle.std.specs.Prelude.{List};
     ghost use Rattle.script.specs.declared.line.Line.{Line as AnyLine};
-    ghost use Rattle.script.specs.Grammar.{is_tree, is_report};
+    ghost use Rattle.script.specs.Count.{Counts};
 
     ghost Value = { List AnyLine };
 
     ghost view = { λ reading. reading.lines.items };
 
-    ghost invariant = { λ reading. (reading.trees ≡ count_by is_tree reading.lines.items)
-        × (reading.reports ≡ count_by is_report reading.lines.items) };
+    ghost invariant = { λ reading. Counts reading.lines.items reading.count };
 }
 
 impl<'a> Reading<'a> {
@@ -42,8 +34,7 @@ impl<'a> Reading<'a> {
     {
         Reading {
             lines: Vec::new(alloc),
-            trees: 0,
-            reports: 0,
+            count: Count::new(),
         }
     }
 
@@ -52,52 +43,16 @@ impl<'a> Reading<'a> {
         ensures goes_on { result ≡ Ok true → GoesOn form text.now self.old self.new }
         ensures ends_here { result ≡ Ok false → EndsHere form text.now self.old }
     {
-        if is_skipped(text) {
-            return Ok(true);
-        }
-        match line_in(text) {
-            Some(line) => self.push(form, line),
-            None => Ok(false),
-        }
-    }
-
-    fn push(&mut self, form: Form, line: Line<'a>) -> Result<bool, AllocError>
-        ensures pushed { result ≡ Ok true → self.new ≡ self.old ++ line.entry ∷ [] }
-        ensures follows { result ≡ Ok true → MayFollow form self.old line.entry }
-        ensures misplaced { result ≡ Ok false → MayFollow form self.old line.entry → ⊥ }
-    {
-        if !self.may_follow(form, &line) {
-            return Ok(false);
-        }
-        let is_tree = matches!(line, Line::Tree);
-        let is_report = matches!(line, Line::Report);
-        self.lines.push(line)?;
-        if is_tree {
-            self.trees += 1;
-        }
-        if is_report {
-            self.reports += 1;
-        }
-        Ok(true)
-    }
-
-    fn may_follow(&self, form: Form, line: &Line) -> bool
-        ensures { IsTrue result ↔ MayFollow form self.now line.now }
-    {
-        self.lines.len() < MAX_LINES
-            && match line {
-                Line::Root { .. } => self.lines.is_empty(),
-                Line::Headroom { .. } => matches!(form, Form::Trace),
-                Line::Tree => matches!(form, Form::Trace) && self.trees < MAX_TREES,
-                Line::Report => matches!(form, Form::Trace) && self.reports < MAX_REPORTS,
-                Line::Child { .. }
-                | Line::Buffer { .. }
-                | Line::Retain { .. }
-                | Line::Transfer { .. }
-                | Line::Slice { .. }
-                | Line::Release { .. }
-                | Line::Close { .. } => true,
+        let mut count = self.count;
+        match count.read(form, text) {
+            TextLine::Skipped => Ok(true),
+            TextLine::Says(line) => {
+                self.lines.push(line)?;
+                self.count = count;
+                Ok(true)
             }
+            TextLine::Unreadable => Ok(false),
+        }
     }
 
     /// The script of the lines that were read.

@@ -1,13 +1,18 @@
--- From wherever the trace was, the lines left lead to the same end.
-use Rattle.std.proofs.Common.{◌++◌, drop}
-use Rattle.script.specs.Trace.{TraceState, text_of, state_after}
-use Rattle.script.specs.Shown.{IsAt, DrawsNumbers}
-use Rattle.script.proofs.RunLemmas.{Reaches}
+-- The lines so far were run, and are counted.
+use Rattle.std.proofs.Common.{◌≡◌, ◌+◌, ◌≤◌, ℕ, List, ◌++◌, length}
+use Rattle.std.specs.Str.Lines.{lines}
+use Rattle.script.specs.declared.form.Form.TheVariants.{Trace}
+use Rattle.script.specs.declared.line.Line.{Line}
+use Rattle.script.specs.Grammar.{Says}
+use Rattle.script.specs.Running.{HasRun}
 use Rattle.script.proofs.run.run_lines.Given as goal
 
-abbrev pub invariant-loop-line : goal.invariant-loop-line
-invariant-loop-line l = record {
-  draws : DrawsNumbers l.initial.trace.tree.state l.trace.tree.state l.line-index;
-  reached : (start : TraceState) → IsAt l.initial.trace start
-      → Reaches l.trace l.out.items (drop l.line-index l.lines) (l.initial.out.items ++ text_of start l.lines) (state_after start l.lines);
+abbrev pub invariant-loop-rest : goal.invariant-loop-rest
+invariant-loop-rest l = record {
+  small : l.line + length l.rest ≤ length l.fn.bytes + 1;
+  reached : (done : List (List ℕ)) × (said : List Line) × (lines l.fn.bytes ≡ done ++ lines l.rest) × (l.line ≡ length done + 1)
+      × Says Trace done said × HasRun l.running said l.initial.out.items l.out.items;
 }
+
+abbrev pub decreases-loop-rest : goal.decreases-loop-rest
+decreases-loop-rest l = length l.rest
