@@ -9,3 +9,4 @@ mod NumberLemmas
 mod BoundLemmas
 mod TraceLemmas
 mod RunLemmas
+mod ReportLemmas

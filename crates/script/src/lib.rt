@@ -6,6 +6,7 @@ mod buffer;
 mod buffers;
 mod count;
 mod form;
+mod laws;
 mod line;
 mod name;
 mod read;
@@ -20,6 +21,7 @@ mod trace;
 mod word;
 
 pub use form::Form;
+pub use laws::reports_of_a_trace_are_lawful;
 pub use line::Line;
 pub use name::Name;
 pub use read::{read_script, texts_have_one_reading};
