@@ -21,6 +21,7 @@ impl SoloTree {
         ensures after { result ≢ Err SoloRefused.NoMemory → IsAfterCall self.old (transfer_result self.old.state of target) self.new }
         ensures no_memory { result ≡ Err SoloRefused.NoMemory → self.new ≡ self.old }
     {
+        // Reading a field tells the proof what always holds of the tree.
         let _ = &self.rows;
         let reference = self.retain(of, target)?;
         let fits = self.take_over(of, target);
