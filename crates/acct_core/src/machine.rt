@@ -112,6 +112,7 @@ impl Core {
         ensures runs { Runs self.old events.now self.new }
         ensures lawful { IsLawfulState self.new }
     {
+        // Reading a field tells the proof what always holds of the accounts.
         let _ = &self.rows;
         for event in events {
             let _ = self.step(*event);
