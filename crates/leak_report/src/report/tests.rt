@@ -1,6 +1,4 @@
 //! Worked examples of a report, whole.
-ghost use Rattle.std.specs.Prelude.{IsTrue};
-ghost use Rattle.mem_model.specs.References.{HasRoomFor};
 
 use super::*;
 use mem_num::{AllocId, BufferRefused, ChildRefused, Ref, SoloRefused};
@@ -30,23 +28,13 @@ fn grant(
     tree.grant(at, request)
 }
 
-/// Whether the chunk of a reference can have one more.
-fn has_room_for(tree: &SoloTree, of: Ref) -> bool
-    ensures { IsTrue result → HasRoomFor tree.now.state of }
-{
-    match tree.chunk(of.chunk) {
-        Some(ledgers) => ledgers.total() < u32::MAX.into(),
-        None => true,
-    }
-}
-
 fn retain(
     rt: &impl Abort,
     tree: &mut SoloTree,
     of: Ref,
     target: AllocId,
 ) -> Result<Ref, SoloRefused> {
-    assert!(rt; has_room_for(tree, of));
+    assert!(rt; tree.has_room_for(of));
     tree.retain(of, target)
 }
 
@@ -56,7 +44,7 @@ fn transfer(
     of: Ref,
     target: AllocId,
 ) -> Result<(Ref, bool), SoloRefused> {
-    assert!(rt; has_room_for(tree, of));
+    assert!(rt; tree.has_room_for(of));
     tree.transfer(of, target)
 }
 
