@@ -7,19 +7,20 @@ use std::io;
 use std::io::{ErrorKind, Read};
 use std::test::Fail;
 
-/// Gives one byte a read, and is interrupted before each.
+/// Gives one byte a read, and is interrupted three times before each.
 #[derive(Drop)]
 struct Slow<'a> {
     rest: &'a [u8],
-    interrupted: bool,
+    interrupts: u32,
 }
 
 impl Read for Slow<'_> {
     fn read(&mut self, buffer: &mut [u8]) -> io::Result<usize> {
-        self.interrupted = !self.interrupted;
-        if self.interrupted {
+        if self.interrupts < 3 {
+            self.interrupts += 1;
             return Err(ErrorKind::Interrupted.into());
         }
+        self.interrupts = 0;
         let Some((first, rest)) = self.rest.split_first() else {
             return Ok(0);
         };
@@ -58,7 +59,9 @@ where
 }
 
 #[test]
-fn a_reader_of_single_bytes_is_read_to_its_end(rt: HostRuntime) -> Result<(), Fail> {
+fn a_reader_of_single_bytes_is_read_to_its_end_past_three_interrupts_in_a_row(
+    rt: HostRuntime,
+) -> Result<(), Fail> {
     for (limit, want, bytes) in [
         (4, Err(ShelfFault::TooLong), b"alloc".as_slice()),
         (5, Ok(()), b"alloc".as_slice()),
@@ -67,7 +70,7 @@ fn a_reader_of_single_bytes_is_read_to_its_end(rt: HostRuntime) -> Result<(), Fa
     ] {
         let reader = Slow {
             rest: b"alloc",
-            interrupted: false,
+            interrupts: 0,
         };
         let (result, into) = outcome(rt.alloc(), reader, limit);
         assert_eq!(rt; result, want, "at {limit}");
