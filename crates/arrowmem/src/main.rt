@@ -7,7 +7,7 @@ mod status;
 mod top;
 
 use gate::OpenGate;
-use mem_io::{FileShelf, Sink, StdSink};
+use mem_io::{FileShelf, Sink, StdSink, SystemFiles};
 use status::Status;
 use std::io::ErrorKind;
 use std::process::ExitCode;
@@ -25,7 +25,7 @@ fn words<R: Env + AllocGlobal>(rt: &R) -> io::Result<Vec<String>> {
 }
 
 fn main(rt: HostRuntime) -> io::Result<ExitCode> {
-    let mut shelf = FileShelf::new(rt.clone()?);
+    let mut shelf = FileShelf::new(SystemFiles(rt.clone()?));
     let mut out = StdSink::new(rt.clone()?);
     let words = match words(&rt) {
         Ok(words) => words,
