@@ -26,7 +26,7 @@ fn words<R: Env + AllocGlobal>(rt: &R) -> io::Result<Vec<String>> {
 
 fn main(rt: HostRuntime) -> io::Result<ExitCode> {
     let mut shelf = FileShelf::new(SystemFiles(rt.clone()?));
-    let mut out = StdSink::new(rt.clone()?);
+    let mut out = StdSink::new(io::writer(&rt));
     let words = match words(&rt) {
         Ok(words) => words,
         Err(error) if error.kind() == ErrorKind::OutOfMemory => {

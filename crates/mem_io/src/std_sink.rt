@@ -1,37 +1,73 @@
-//! Standard output.
-ghost use Rattle.std.specs.Prelude.{◌≡◌, None, OnOk};
-ghost use Rattle.std.specs.Io.KnownBytes.{Appends};
+//! A writer as an output.
+ghost use Rattle.std.specs.Prelude.{◌≡◌, ◌-◌, ◌^◌, ◌≤◌, None, IfErr, IfSome};
+ghost use Rattle.std.specs.declared.io.ErrorKind.TheVariants.{Interrupted};
+ghost use Rattle.std.specs.Io.{WritesAtMost};
+ghost use Rattle.std.specs.Io.KnownBytes.{WriteAppends};
+ghost use Rattle.std.specs.IoError.{error_kind};
+ghost use Rattle.mem_io.specs.Sink.{Appends, faults_after};
 
 use crate::sink::{Sink, SinkFault};
 use std::io;
-use std::io::Write;
+use std::io::{ErrorKind, Write};
 
-/// Standard output, written and flushed in one go.
+/// A writer, as standard output, that is written and flushed in one go. A call whose flush fails has
+/// failed, and all its bytes are with the writer.
 #[derive(Drop)]
-pub struct StdSink<R: Print + Drop> {
-    out: R,
-    failed: u64,
+pub struct StdSink<W: Write + Drop> {
+    pub out: W,
+    /// The error count. It stands still at `u64::MAX`.
+    pub failed: u64,
 }
 
-impl<R: Print + Drop> StdSink<R> {
+impl<W: Write + Drop> StdSink<W> {
     /// A sink whose error count is 0. Takes no memory.
-    pub fn new(out: R) -> StdSink<R>
-        ensures { ⟦<StdSink<R> as Sink>⟧.fault_count result ≡ 0 }
+    pub fn new(out: W) -> StdSink<W>
+        ensures out { result.out ≡ out }
+        ensures failed { result.failed ≡ 0 }
     {
         StdSink { out, failed: 0 }
     }
 }
 
-// Writes all bytes and flushes them. Where the writer tells its bytes, none is lost.
-fn put<W: Write>(out: &mut W, bytes: &[u8]) -> io::Result<()>
-    ensures { OnOk result (Appends (W.contents out.old) (W.contents out.new) bytes.now) }
+// Writes all bytes and flushes them.
+fn put<W: Write>(out: &mut W, bytes: &[u8]) -> Result<(), SinkFault>
+    ensures { IfSome (W.contents out.old) (λ old.
+        Appends old (W.contents out.new) bytes.now result) }
 {
-    out.write_all(bytes)?;
-    out.flush()
+    let mut rest = bytes;
+    let mut interrupts = 0;
+    while !rest.is_empty() {
+        let count = write_some(out, rest, &mut interrupts)?;
+        if count == 0 {
+            return Err(SinkFault::Failed);
+        }
+        rest = &rest[count..];
+    }
+    out.flush()?;
+    Ok(())
 }
 
-impl<R: Print + Drop> Sink for StdSink<R> {
-    ghost written = { λ _. None };
+// One write, made again where a signal interrupts it. `interrupts` counts how often that came.
+fn write_some<W: Write>(out: &mut W, bytes: &[u8], interrupts: &mut u64) -> io::Result<usize>
+    ensures bound { WritesAtMost result bytes.now }
+    ensures bytes { WriteAppends (W.contents out.old) (W.contents out.new) result bytes.now }
+
+    // It gives up at the end of the count, and not before.
+    ensures retried { IfErr result (λ error.
+        error_kind error ≡ Interrupted → 2 ^ 64 - 1 ≤ interrupts.new) }
+{
+    while *interrupts < u64::MAX {
+        match out.write(bytes) {
+            Ok(count) => return Ok(count),
+            Err(error) if error.kind() == ErrorKind::Interrupted => *interrupts += 1,
+            Err(error) => return Err(error),
+        }
+    }
+    Err(ErrorKind::Interrupted.into())
+}
+
+impl<W: Write + Drop> Sink for StdSink<W> {
+    ghost written = { λ sink. W.contents sink.out };
 
     ghost fault_plan = { λ _. None };
 
@@ -41,8 +77,13 @@ impl<R: Print + Drop> Sink for StdSink<R> {
         self.failed
     }
 
-    fn write(&mut self, bytes: &[u8]) -> Result<(), SinkFault> {
-        let result = put(&mut io::writer(&self.out), bytes).map_err(SinkFault::from);
+    fn write(&mut self, bytes: &[u8]) -> Result<(), SinkFault>
+        ensures never_falls { self.old.failed ≤ self.new.failed }
+        ensures failed { self.new.failed ≡ faults_after result self.old.failed }
+        ensures bytes { IfSome (W.contents self.old.out) (λ old.
+            Appends old (W.contents self.new.out) bytes.now result) }
+    {
+        let result = put(&mut self.out, bytes);
         if result == Err(SinkFault::Failed) {
             self.failed = self.failed.saturating_add(1);
         }
@@ -51,79 +92,4 @@ impl<R: Print + Drop> Sink for StdSink<R> {
 }
 
 #[cfg(test)]
-mod tests {
-    use super::*;
-    use std::fmt::Display;
-    use std::io::ErrorKind;
-    use std::test::Fail;
-
-    /// Takes three bytes a write, and fails once it has no more room.
-    #[derive(Drop)]
-    struct Terminal {
-        shown: Vec<u8>,
-        room: usize,
-    }
-
-    impl Write for Terminal {
-        fn write(&mut self, bytes: &[u8]) -> io::Result<usize> {
-            if self.shown.len() >= self.room {
-                return Err(ErrorKind::BrokenPipe.into());
-            }
-            let count = bytes.len().min(3);
-            self.shown.extend_from_slice(&bytes[..count])?;
-            Ok(count)
-        }
-
-        fn flush(&mut self) -> io::Result<()> {
-            Ok(())
-        }
-    }
-
-    #[test]
-    fn a_writer_that_takes_few_bytes_at_once_gets_all(rt: HostRuntime) -> Result<(), Fail> {
-        for (room, want, bytes) in [
-            (100, true, b"refs 2\n".as_slice()),
-            (6, false, b"refs 2"),
-            (0, false, b""),
-        ] {
-            let shown = Vec::new(rt.alloc());
-            let mut terminal = Terminal { shown, room };
-            assert_eq!(rt; put(&mut terminal, b"refs 2\n").is_ok(), want, "at {room}");
-            assert_eq!(rt; terminal.shown.as_slice(), bytes, "at {room}");
-        }
-        Ok(())
-    }
-
-    /// Standard output behind a pipe that was closed.
-    #[derive(Drop)]
-    struct Closed;
-
-    impl Print for Closed {
-        fn print<D: Display + Drop>(&self, _value: D) -> io::Result<()> {
-            Err(ErrorKind::BrokenPipe.into())
-        }
-
-        fn println<D: Display + Drop>(&self, _value: D) -> io::Result<()> {
-            Err(ErrorKind::BrokenPipe.into())
-        }
-
-        fn write_all(&self, _bytes: &[u8]) -> io::Result<()> {
-            Err(ErrorKind::BrokenPipe.into())
-        }
-    }
-
-    #[test]
-    fn a_closed_pipe_is_a_failure_and_is_counted(rt: HostRuntime) {
-        let mut sink = StdSink::new(Closed);
-        assert_eq!(rt; sink.write(b"refs 2\n"), Err(SinkFault::Failed));
-        assert_eq!(rt; sink.write(b"refs 2\n"), Err(SinkFault::Failed));
-        assert_eq!(rt; sink.faults(), 2);
-    }
-
-    #[test]
-    fn standard_output_takes_bytes(rt: HostRuntime) {
-        let mut sink = StdSink::new(&rt);
-        assert_eq!(rt; sink.write(b"refs 2\n"), Ok(()));
-        assert_eq!(rt; sink.faults(), 0);
-    }
-}
+mod tests;
