@@ -4,7 +4,7 @@ ghost use Rattle.mem_io.specs.Faults.{Rose, fails_next, plan_after};
 ghost use Rattle.mem_io.specs.Shelf.{after_call};
 ghost use Rattle.arrowmem.specs.Status.{code_of};
 ghost use Rattle.arrowmem.specs.Words as spec;
-ghost use Rattle.arrowmem.specs.RunsTo.{Answers, Delivers, RunsTo, Writes, file_line, unreadable_text};
+ghost use Rattle.arrowmem.specs.RunsTo.{Answers, Delivers, RunsTo, Writes, file_line, unreadable_text, no_memory_text};
 ghost use Rattle.arrowmem.specs.Steps.{EndsAs, IsPlanned, TracesTo};
 ghost use Rattle.arrowmem.specs.declared.status.Status.{Status as AnyStatus};
 
@@ -44,6 +44,10 @@ pub fn arrowmem<H: Shelf, K: Sink, G: Gate>(
     ensures read_fault { result ≡ 5 → Rose (H.fault_count shelf.old) (H.fault_count shelf.new) }
     ensures write_fault { result ≡ 6 → Rose (K.fault_count out.old) (K.fault_count out.new) }
 
+    // A fault that was counted is told: that of the sink always, and that of the shelf unless the sink failed or memory ran out.
+    ensures write_told { K.fault_count out.new ≢ K.fault_count out.old → result ≡ 6 }
+    ensures read_told { H.fault_count shelf.new ≢ H.fault_count shelf.old → result ≢ 6 → result ≢ 8 → result ≡ 5 }
+
     // The shelf is asked once, or not at all where the words have no reading; the sink is called once.
     ensures unasked { spec.trace_file (map string_bytes words.now) ≡ None → shelf.new ≡ shelf.old }
     ensures asked { IfSome (H.told shelf.old) (λ files.
@@ -56,15 +60,27 @@ pub fn arrowmem<H: Shelf, K: Sink, G: Gate>(
 {
     let mut output = Vec::new(alloc);
     let Ok(status) = answer(alloc, words, shelf, &mut output) else {
-        return deliver(out, Status::NoMemory, NO_MEMORY.as_bytes()).code();
+        return end_without_memory(out).code();
     };
     deliver(out, status, &output).code()
+}
+
+// Writes the line of want of memory, and gives the status that the run ends with.
+pub(crate) fn end_without_memory<K: Sink>(out: &mut K) -> Status
+    ensures delivers { (bytes : List ℕ) × Delivers Status.NoMemory no_memory_text result bytes × Writes (K.written out.old) (K.written out.new) bytes }
+    ensures ends { EndsAs Status.NoMemory result (Rose (K.fault_count out.old) (K.fault_count out.new)) }
+    ensures told { K.fault_count out.new ≢ K.fault_count out.old → result ≡ Status.WriteFault }
+    ensures called { IfSome (K.fault_plan out.old) (λ plan. K.fault_plan out.new ≡ Some (plan_after plan)) }
+    ensures planned { IfSome (K.fault_plan out.old) (λ plan. IsPlanned plan Status.NoMemory result) }
+{
+    deliver(out, Status::NoMemory, NO_MEMORY.as_bytes())
 }
 
 // Writes an output by one call, and gives the status that the run ends with.
 fn deliver<K: Sink>(out: &mut K, status: Status, output: &[u8]) -> Status
     ensures delivers { (bytes : List ℕ) × Delivers status output.now result bytes × Writes (K.written out.old) (K.written out.new) bytes }
     ensures ends { EndsAs status result (Rose (K.fault_count out.old) (K.fault_count out.new)) }
+    ensures told { K.fault_count out.new ≢ K.fault_count out.old → result ≡ Status.WriteFault }
     ensures called { IfSome (K.fault_plan out.old) (λ plan. K.fault_plan out.new ≡ Some (plan_after plan)) }
     ensures planned { IfSome (K.fault_plan out.old) (λ plan. IsPlanned plan status result) }
 {
@@ -87,6 +103,7 @@ fn answer<H: Shelf>(
         Answers (map string_bytes words.now) files status out.new.items)) }
     ensures usage { IfOk result (λ status. (status ≡ Status.Usage) ↔ (spec.trace_file (map string_bytes words.now) ≡ None)) }
     ensures read_fault { IfOk result (λ status. status ≡ Status.ReadFault → Rose (H.fault_count shelf.old) (H.fault_count shelf.new)) }
+    ensures read_told { IfOk result (λ status. H.fault_count shelf.new ≢ H.fault_count shelf.old → status ≡ Status.ReadFault) }
     ensures write_fault { IfOk result (λ status. status ≢ Status.WriteFault) }
     ensures memory { IfOk result (λ status. status ≢ Status.NoMemory) }
     ensures unasked { spec.trace_file (map string_bytes words.now) ≡ None → shelf.new ≡ shelf.old }
