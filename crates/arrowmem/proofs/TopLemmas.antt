@@ -5,7 +5,7 @@ use Rattle.mem_io.specs.Sink.{Appends}
 use Rattle.mem_io.specs.declared.shelf.ShelfFault.TheVariants.{Failed, TooLong as Longer}
 use Rattle.mem_io.specs.declared.sink.SinkFault.{SinkFault}
 use Rattle.arrowmem.specs.Words.{trace_file}
-use Rattle.arrowmem.specs.RunsTo.{Answers, done, usage, unreadable, read_fault, too_long, no_memory, Delivers, RunsTo, Writes, file_line, usage_text, max_input}
+use Rattle.arrowmem.specs.RunsTo.{Answers, done, usage, unreadable, read_fault, too_long, no_memory, Delivers, write_fault, without_memory, RunsTo, Writes, file_line, usage_text, max_input}
 use Rattle.arrowmem.specs.Steps.{TracesTo}
 use Rattle.arrowmem.specs.Status.{code_of}
 use Rattle.arrowmem.specs.declared.status.Status.{Status}
@@ -48,6 +48,18 @@ pub wrote_some : (old new : Option (List ℕ)) (bytes : List ℕ) (fault : SinkF
 wrote_some None new bytes fault h = (0, tt)
 wrote_some (Some o) None bytes fault h = absurd h
 wrote_some (Some o) (Some n) bytes fault h = (h.0, ap Some h.1)
+
+-- the statuses with which a sink may have taken a first part of an output
+abbrev pub CutsShort : Status → Type 0
+CutsShort status.WriteFault = Unit {0}
+CutsShort status.NoMemory = Unit {0}
+CutsShort ended = ⊥
+
+-- an output of which a first part was taken is delivered with these
+pub cut_short : (answer ended : Status) (output : List ℕ) (count : ℕ) → CutsShort ended → Delivers answer output ended (take count output)
+cut_short answer status.WriteFault output count short = write_fault count
+cut_short answer status.NoMemory output count short = without_memory count
+cut_short answer _ output count short = absurd short
 
 -- an answer that was delivered is a run
 pub delivered : (words : List (List ℕ)) (told : Option Told) (old new : Option (List ℕ)) (answer ended : Status) (output : List ℕ) (code : ℕ) → IfSome told (λ files. Answers words files answer output) → code ≡ code_of ended
