@@ -8,12 +8,13 @@ use Rattle.mem_model.specs.Balance.{Balances}
 use Rattle.mem_model.specs.Charge.{charged_at}
 use Rattle.mem_model.specs.Chunk.{Chunk, charges_of}
 use Rattle.mem_model.specs.Held.{counted_children}
-use Rattle.mem_model.specs.LawfulState.{IsLawfulChunk, IsLawfulState}
+use Rattle.mem_model.specs.LawfulChunk.{IsLawfulChunk}
+use Rattle.mem_model.specs.LawfulState.{IsLawfulState}
 use Rattle.mem_model.specs.Ledgers.{count_of}
 use Rattle.mem_model.specs.MeasuredTree.{IsAfterCall, raised_peaks}
 use Rattle.mem_model.specs.PeakSample.{PeakSample}
 use Rattle.mem_model.specs.References.{referred_chunk}
-use Rattle.mem_model.specs.TreeState.{TreeState, CallResult, uses_of}
+use Rattle.mem_model.specs.TreeState.{TreeState, CallResult, is_open, uses_of}
 use Rattle.mem_model.proofs.ReferenceLemmas.{found, referred_lawful, referred_number, referred_is_numbered}
 use Rattle.alloc_tree.specs.declared.row.Row.{Row}
 use Rattle.alloc_tree.specs.Chunks.{chunk_at}
@@ -61,7 +62,7 @@ pub record IsReferred (state : TreeState) (of : Ref) (chunk : Chunk) : Type 0 wh
   pub found : referred_chunk state of ≡ Some chunk
   pub number : chunk.number ≡ of.chunk
   pub at_number : chunk_at state.chunks of.chunk ≡ Some chunk
-  pub lawful : IsLawfulChunk state chunk
+  pub lawful : IsLawfulChunk (is_open state) chunk
   pub counted : 1 ≤ count_of chunk.ledgers of.alloc.0
 
 pub referred : (state : TreeState) (of : Ref) (chunk : Chunk) → IsLawfulState state → referred_chunk state of ≡ Some chunk → IsReferred state of chunk
@@ -70,7 +71,7 @@ referred state of chunk lawful is =
     record { found = is; number = referred_number state of chunk lawful is; at_number = referred_is_numbered state of chunk lawful is; lawful = both.0; counted = both.1 }
 
 -- a chunk that is found by its number is lawful, and has it
-pub numbered_lawful : (state : TreeState) (n : ℕ) (chunk : Chunk) → IsLawfulState state → chunk_at state.chunks n ≡ Some chunk → IsLawfulChunk state chunk × (chunk.number ≡ n)
+pub numbered_lawful : (state : TreeState) (n : ℕ) (chunk : Chunk) → IsLawfulState state → chunk_at state.chunks n ≡ Some chunk → IsLawfulChunk (is_open state) chunk × (chunk.number ≡ n)
 numbered_lawful state n chunk lawful is =
-    let both = found (IsLawfulChunk state) (λ c. eqb c.number n) state.chunks chunk lawful.chunks is in
+    let both = found (IsLawfulChunk (is_open state)) (λ c. eqb c.number n) state.chunks chunk lawful.chunks is in
     (both.0, eqb-true chunk.number n both.1)

@@ -105,7 +105,7 @@ stays (c ∷ cs) k below =
     rw other (ap (λ xs. c ∷ xs) (stays cs k (All-tail (λ (x : Chunk). x.number < k) c cs below)))
 
 pub numbers_below : (state : TreeState) → IsLawfulState state → All (λ chunk. chunk.number < state.drawn + 1) state.chunks
-numbers_below state lawful k d within = let given : (get_or state.chunks k d).number ≤ state.drawn = (lawful.chunks k d within).given in omega (arith, given)
+numbers_below state lawful k d within = let given : (get_or state.chunks k d).number ≤ state.drawn = lawful.given k d within in omega (arith, given)
 
 last_goes : (chunks : List Chunk) (chunk : Chunk) → All (λ older. older.number < chunk.number) chunks → without_chunk chunk.number (chunks ++ chunk ∷ []) ≡ chunks
 last_goes chunks chunk below =

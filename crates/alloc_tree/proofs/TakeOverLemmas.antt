@@ -9,11 +9,12 @@ use Rattle.mem_model.specs.Balance.{amount_for}
 use Rattle.mem_model.specs.Charge.{amount_at}
 use Rattle.mem_model.specs.Chunk.{Chunk, charge_of, charges_of, with_chunk}
 use Rattle.mem_model.specs.Force.{force_sample, is_within_limits}
-use Rattle.mem_model.specs.LawfulState.{IsLawfulChunk, IsLawfulState}
+use Rattle.mem_model.specs.LawfulChunk.{IsLawfulChunk}
+use Rattle.mem_model.specs.LawfulState.{IsLawfulState}
 use Rattle.mem_model.specs.Ledgers.{count_of}
 use Rattle.mem_model.specs.MeasuredTree.{MeasuredTree}
 use Rattle.mem_model.specs.PeakSample.{PeakSample}
-use Rattle.mem_model.specs.TreeState.{TreeState, CallResult, unchanged}
+use Rattle.mem_model.specs.TreeState.{TreeState, CallResult, unchanged, is_open}
 use Rattle.mem_model.proofs.LawfulReferenceLemmas.{lawful-with_chunk}
 use Rattle.mem_model.proofs.ReferenceLemmas.{referrer_open, owner_open}
 use Rattle.alloc_tree.specs.declared.row.Row.{Row}
@@ -58,7 +59,7 @@ read_for_move fields tree of target ledgers owner size sound view refers at own 
 abbrev pub chunks_moved : List Chunk → Chunk → AllocId → List Chunk
 chunks_moved chunks chunk target = with_chunk (record chunk { owner = target }) chunks
 
-lawful_of : (rows : List (Option Row)) (chunks : List Chunk) (next drawn : ℕ) (of : Ref) (target : AllocId) (chunk : Chunk) (size : ℕ) → IsTakenOver rows chunks next drawn of target chunk size → IsLawfulChunk (state_with rows chunks next drawn) chunk
+lawful_of : (rows : List (Option Row)) (chunks : List Chunk) (next drawn : ℕ) (of : Ref) (target : AllocId) (chunk : Chunk) (size : ℕ) → IsTakenOver rows chunks next drawn of target chunk size → IsLawfulChunk (is_open (state_with rows chunks next drawn)) chunk
 lawful_of rows chunks next drawn of target chunk size h = (numbered_lawful (state_with rows chunks next drawn) of.chunk chunk h.lawful h.at_number).0
 
 -- both are open, and there is room for the charge
@@ -116,5 +117,5 @@ taken_over_done rows moved chunks left next drawn of target chunk size fits h ke
     let call = take_over_result state of target in
     subst (λ cs. IsDone rows chunks next drawn call moved cs fits) (sym left_is)
     (done rows moved chunks (chunks_moved chunks chunk target) next drawn call fits (force_sample state (record { at = target; amount = size }) ∷ []) (take_over_is state of target chunk size fits h.at_number h.owner h.apart h.bytes moves.fits) kept.nodes kept.length
-    (lawful-with_chunk state new h.lawful (record { some = lawful.some; given = lawful.given; some_bytes = lawful.some_bytes; few_bytes = lawful.few_bytes; in_order = lawful.in_order; owner = h.counted; open_ = lawful.open_ }))
+    (lawful-with_chunk state new h.lawful (record { some = lawful.some; some_bytes = lawful.some_bytes; few_bytes = lawful.few_bytes; in_order = lawful.in_order; owner = h.counted; open_ = lawful.open_ }))
     moves.held (λ n. ap (λ (f : ℕ → ℕ). f n) kept.uses ∙ h.keeps.uses n ∙ omega (arith, sum_by-with_chunk (ledger_count n) new.number new chunk chunks refl h.lawful.in_order at)) moves.peaks)

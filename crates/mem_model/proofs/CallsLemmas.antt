@@ -10,7 +10,8 @@ use Rattle.mem_model.specs.Calls.{TreeCall, Child, Close, Grant, Retain, Transfe
 use Rattle.mem_model.specs.Charge.{charged_at}
 use Rattle.mem_model.specs.Chunk.{Chunk, charges_of, has_ledger}
 use Rattle.mem_model.specs.Ledgers.{total_of}
-use Rattle.mem_model.specs.LawfulState.{IsLawfulChunk, IsLawfulState}
+use Rattle.mem_model.specs.LawfulChunk.{IsLawfulChunk}
+use Rattle.mem_model.specs.LawfulState.{IsLawfulState}
 use Rattle.mem_model.specs.TreeNode.{is_number, is_open_child}
 use Rattle.mem_model.specs.TreeState.{TreeState, opened, charges_in, is_open, held_at, ledgers_of, children_of}
 use Rattle.mem_model.specs.Held.{held_of}
@@ -64,13 +65,13 @@ references-calls state (call ∷ calls) h bounded =
     )
 
 -- lawful chunks have references, so where there is none, there is no chunk
-no_chunks : (state : TreeState) (chunks : List Chunk) → All (IsLawfulChunk state) chunks → sum_by (λ chunk. total_of chunk.ledgers) chunks ≡ 0 → chunks ≡ []
+no_chunks : (state : TreeState) (chunks : List Chunk) → All (IsLawfulChunk (is_open state)) chunks → sum_by (λ chunk. total_of chunk.ledgers) chunks ≡ 0 → chunks ≡ []
 no_chunks state [] lawful none = refl
 no_chunks state (chunk ∷ chunks) lawful none = absurd (omega (
   arith,
   none,
   sum_by-cons (λ (x : Chunk). total_of x.ledgers) chunk chunks,
-  (All-head (IsLawfulChunk state) chunk chunks lawful).owner,
+  (All-head (IsLawfulChunk (is_open state)) chunk chunks lawful).owner,
   count_of-le-total_of chunk.ledgers chunk.owner.0,
 ))
 

@@ -9,8 +9,9 @@ use Rattle.mem_model.specs.declared.tree_node.TreeNode.{TreeNode}
 use Rattle.mem_model.specs.Calls.{IsChargedOnce}
 use Rattle.mem_model.specs.Charge.{amount_at, charged_at}
 use Rattle.mem_model.specs.Chunk.{Chunk, charge_of, charges_of}
-use Rattle.mem_model.specs.LawfulState.{IsLawfulChunk, IsLawfulState}
-use Rattle.mem_model.specs.TreeState.{TreeState, charges_in}
+use Rattle.mem_model.specs.LawfulChunk.{IsLawfulChunk}
+use Rattle.mem_model.specs.LawfulState.{IsLawfulState}
+use Rattle.mem_model.specs.TreeState.{TreeState, charges_in, is_open}
 use Rattle.mem_model.proofs.HeldLemmas.{Rises}
 use Rattle.mem_model.proofs.OpenLemmas.{is_open_at, pairs_head, pairs_tail}
 use Rattle.mem_model.proofs.ReferenceLemmas.{owner_open}
@@ -75,7 +76,7 @@ pub charged_sum-lawful : (state : TreeState) → IsLawfulState state → sum_by 
 charged_sum-lawful state h = charged_sum state.nodes state.chunks h.tree.ordered (λ k d within. owner_open state _ (h.chunks k d within))
 
 -- a lawful chunk is charged to its owner, once
-pub charged_once : (state : TreeState) (chunk : Chunk) → IsLawfulChunk state chunk → IsChargedOnce state chunk
+pub charged_once : (state : TreeState) (chunk : Chunk) → IsLawfulChunk (is_open state) chunk → IsChargedOnce state chunk
 charged_once state chunk h = record {
   open_ = owner_open state chunk h;
   refers = h.owner;

@@ -18,7 +18,7 @@ use Rattle.mem_model.proofs.OpenLemmas.{length-rising}
 pub chunks_few : (state : TreeState) → IsLawfulState state → length state.chunks ≤ state.drawn
 chunks_few state h =
     let few = length-rising (λ (chunk : Chunk). chunk.number) 1 (state.drawn + 1) state.chunks h.in_order (λ k d within. (h.chunks k d within).some)
-    (λ k d within. let given : (get_or state.chunks k d).number ≤ state.drawn = (h.chunks k d within).given in omega arith) (omega arith) in
+    (λ k d within. let given : (get_or state.chunks k d).number ≤ state.drawn = h.given k d within in omega arith) (omega arith) in
     omega (arith, few)
 
 -- and at most 64 nodes

@@ -96,11 +96,12 @@ lawful-close state n h unused =
       chunks = λ k d within.
           let chunk = get_or state.chunks k d in
           let lawful = h.chunks k d within in
-          lawful_after state after chunk lawful (omega arith) (λ i l in_.
+          lawful_after (is_open state) (is_open after) chunk lawful (λ i l in_.
           let at = (get_or chunk.ledgers i l).at.0 in
           let some : 1 ≤ count_of chunk.ledgers at = ledger-counted chunk.ledgers i l lawful.in_order.counted in_ in
           let other : at ≡ n → ⊥ = λ same. both_ways (has_ledger n chunk) (no_ledger k d within) (lt-ltb 0 (count_of chunk.ledgers n) (subst (λ m. 1 ≤ count_of chunk.ledgers m) same some)) in
           open-close n at state.nodes other (lawful.open_ i l in_));
+      given = h.given;
     }
 
 -- an identifier that has the number n

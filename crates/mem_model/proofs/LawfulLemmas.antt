@@ -1,5 +1,5 @@
 -- Each step of a tree keeps the law of its state.
-use Rattle.std.proofs.Common.{◌≡◌, ℕ, ◌+◌, ◌<◌, ◌≤◌, ◌^◌, List, [], ◌∷◌, ◌++◌, get_or, true, not, ◌==◌, refl, sym, ap, subst, ◌∙◌, arith, Some, All, Any}
+use Rattle.std.proofs.Common.{◌≡◌, ℕ, Bool, ◌+◌, ◌<◌, ◌≤◌, ◌^◌, List, [], ◌∷◌, ◌++◌, get_or, true, not, ◌==◌, refl, sym, ap, subst, ◌∙◌, arith, Some, All, Any}
 use Rattle.std.specs.List.{list_any}
 use Rattle.std.specs.Option.{ForSome}
 use Rattle.std.proofs.lemmas.List.Elements.{All-nil, All-cons, All-push, All-weaker, All-filter}
@@ -15,7 +15,8 @@ use Rattle.mem_model.specs.TreeNode.{IsParentOf, HasParentUnlessRoot, IsAllocato
 use Rattle.mem_model.specs.TreeState.{TreeState, root_node, opened, is_open}
 use Rattle.mem_model.specs.Child.{most_nodes, child_node}
 use Rattle.mem_model.specs.Release.{without_chunk}
-use Rattle.mem_model.specs.LawfulState.{IsWithinBounds, IsLawfulChunk, IsLawfulState}
+use Rattle.mem_model.specs.LawfulChunk.{IsLawfulChunk}
+use Rattle.mem_model.specs.LawfulState.{IsWithinBounds, IsLawfulState}
 use Rattle.mem_model.proofs.OpenLemmas.{is_open_at, open_parts, same_id, Any-more}
 use Rattle.mem_model.proofs.ReferenceLemmas.{ledger-counted}
 
@@ -31,14 +32,18 @@ opened_lawful limit limited =
       };
       nodes = All-cons (IsWithinBounds 1) root [] (record { given = omega arith; few = omega arith; reserves = omega arith; small = omega arith; limited = limited; root = λ _. refl }) (All-nil (IsWithinBounds 1));
       in_order = λ i j d lt within. absurd (omega arith);
-      chunks = All-nil (IsLawfulChunk (opened limit));
+      chunks = All-nil (IsLawfulChunk (is_open (opened limit)));
+      given = All-nil (λ (chunk : Chunk). chunk.number ≤ 0);
     }
 
--- a lawful chunk stays lawful where no number is taken back and whoever refers to it stays open
-pub lawful_after : (state after : TreeState) (chunk : Chunk) → IsLawfulChunk state chunk → state.drawn ≤ after.drawn → All (λ ledger. is_open after ledger.at.0 ≡ true) chunk.ledgers → IsLawfulChunk after chunk
-lawful_after state after chunk h drawn open_ =
-    let given : chunk.number ≤ state.drawn = h.given in
-    record { some = h.some; given = omega arith; some_bytes = h.some_bytes; few_bytes = h.few_bytes; in_order = h.in_order; owner = h.owner; open_ = open_ }
+-- a lawful chunk stays lawful where whoever refers to it stays open
+pub lawful_after : (before after : ℕ → Bool) (chunk : Chunk) → IsLawfulChunk before chunk → All (λ ledger. after ledger.at.0 ≡ true) chunk.ledgers → IsLawfulChunk after chunk
+lawful_after before after chunk h open_ =
+    record { some = h.some; some_bytes = h.some_bytes; few_bytes = h.few_bytes; in_order = h.in_order; owner = h.owner; open_ = open_ }
+
+-- a number that was given stays so when one more is drawn
+given_later : (drawn : ℕ) (chunk : Chunk) → chunk.number ≤ drawn → chunk.number ≤ drawn + 1
+given_later drawn chunk given = omega (arith, given)
 
 -- a chunk number is spent
 pub lawful-spend_chunk : (state : TreeState) → IsLawfulState state → IsLawfulState (record state { drawn = state.drawn + 1 })
@@ -46,7 +51,8 @@ lawful-spend_chunk state h = record {
   tree = h.tree;
   nodes = h.nodes;
   in_order = h.in_order;
-  chunks = λ k d within. lawful_after state (record state { drawn = state.drawn + 1 }) (get_or state.chunks k d) (h.chunks k d within) (omega arith) (h.chunks k d within).open_;
+  chunks = h.chunks;
+  given = All-weaker (λ (chunk : Chunk). chunk.number ≤ state.drawn) (λ chunk. chunk.number ≤ state.drawn + 1) (given_later state.drawn) state.chunks h.given;
 }
 
 -- one ledger with one reference is in order
@@ -66,17 +72,18 @@ lawful-push_chunk state size owner h some few open_ =
       tree = h.tree;
       nodes = h.nodes;
       in_order = all_pairs_push (λ (older newer : Chunk). older.number < newer.number) state.chunks chunk h.in_order
-          (λ k d within. let given : (get_or state.chunks k d).number ≤ state.drawn = (h.chunks k d within).given in omega arith);
-      chunks = All-push (IsLawfulChunk after) state.chunks chunk (λ k d within. lawful_after state after (get_or state.chunks k d) (h.chunks k d within) (omega arith) (h.chunks k d within).open_)
+          (λ k d within. let given : (get_or state.chunks k d).number ≤ state.drawn = h.given k d within in omega arith);
+      chunks = All-push (IsLawfulChunk (is_open after)) state.chunks chunk h.chunks
           (record {
             some = omega arith;
-            given = omega arith;
             some_bytes = some;
             few_bytes = few;
             in_order = one_ledger owner;
             owner = ledger-counted chunk.ledgers 0 (record { at = owner; count = 0 }) (one_ledger owner).counted (omega arith);
             open_ = All-cons (λ (ledger : Ledger). is_open after ledger.at.0 ≡ true) (record { at = owner; count = 1 }) [] open_ (All-nil (λ (ledger : Ledger). is_open after ledger.at.0 ≡ true));
           });
+      given = All-push (λ (c : Chunk). c.number ≤ state.drawn + 1) state.chunks chunk
+          (All-weaker (λ (c : Chunk). c.number ≤ state.drawn) (λ c. c.number ≤ state.drawn + 1) (given_later state.drawn) state.chunks h.given) (omega arith);
     }
 
 -- the chunks but for one of them stay
@@ -85,8 +92,8 @@ lawful-without_chunk state n h = record {
   tree = h.tree;
   nodes = h.nodes;
   in_order = AllPairs-filter (λ (older newer : Chunk). older.number < newer.number) (λ (chunk : Chunk). not (chunk.number == n)) state.chunks h.in_order;
-  chunks = All-filter (λ (chunk : Chunk). not (chunk.number == n)) (IsLawfulChunk (record state { chunks = without_chunk n state.chunks })) state.chunks
-      (λ k d within. lawful_after state (record state { chunks = without_chunk n state.chunks }) (get_or state.chunks k d) (h.chunks k d within) (omega arith) (h.chunks k d within).open_);
+  chunks = All-filter (λ (chunk : Chunk). not (chunk.number == n)) (IsLawfulChunk (is_open state)) state.chunks h.chunks;
+  given = All-filter (λ (chunk : Chunk). not (chunk.number == n)) (λ chunk. chunk.number ≤ state.drawn) state.chunks h.given;
 }
 
 -- a node within bounds stays so when a number more is given
@@ -99,7 +106,8 @@ lawful-spend_number state h = record {
   tree = h.tree;
   nodes = All-weaker (IsWithinBounds state.next) (IsWithinBounds (state.next + 1)) (bounds_later state.next) state.nodes h.nodes;
   in_order = h.in_order;
-  chunks = λ k d within. lawful_after state (record state { next = state.next + 1 }) (get_or state.chunks k d) (h.chunks k d within) (omega arith) (h.chunks k d within).open_;
+  chunks = h.chunks;
+  given = h.given;
 }
 
 -- an open allocator is the parent of a younger node that names it
@@ -153,6 +161,7 @@ lawful-push_child state parent reservation limit h open_ room reserves small lim
       in_order = h.in_order;
       chunks = λ k d within.
           let chunk = get_or state.chunks k d in
-          lawful_after state after chunk (h.chunks k d within) (omega arith)
+          lawful_after (is_open state) (is_open after) chunk (h.chunks k d within)
           (λ i l in_. open_more state.nodes (child ∷ []) (get_or chunk.ledgers i l).at.0 ((h.chunks k d within).open_ i l in_));
+      given = h.given;
     }

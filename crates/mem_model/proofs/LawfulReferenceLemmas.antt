@@ -1,5 +1,5 @@
 -- Calls on references keep the law of the tree's state.
-use Rattle.std.proofs.Common.{◌≡◌, ℕ, ◌+◌, ◌-◌, ◌<◌, ◌==◌, get_or, true, not, refl, sym, arith, inl, inr, Option, Some, None, Err}
+use Rattle.std.proofs.Common.{◌≡◌, ℕ, ◌+◌, ◌-◌, ◌<◌, ◌≤◌, ◌==◌, get_or, true, not, refl, sym, arith, inl, inr, Option, Some, None, Err}
 use Rattle.std.specs.Option.{option_map_or}
 use Rattle.std.proofs.lemmas.Bool.{cases_eq, cond_both, eqb-true, not-false, ltb-true}
 use Rattle.std.proofs.lemmas.List.Elements.{All-map}
@@ -9,13 +9,14 @@ use Rattle.mem_num.specs.declared.solo_refused.SoloRefused.TheVariants.{Released
 use Rattle.mem_model.specs.declared.ledger.Ledger.{Ledger}
 use Rattle.mem_model.specs.Chunk.{Chunk, has_ledger, retained, released, in_place_of, with_chunk}
 use Rattle.mem_model.specs.Ledgers.{count_of}
-use Rattle.mem_model.specs.LawfulState.{IsLawfulChunk, IsLawfulState}
+use Rattle.mem_model.specs.LawfulChunk.{IsLawfulChunk}
+use Rattle.mem_model.specs.LawfulState.{IsLawfulState}
 use Rattle.mem_model.specs.References.{referred_chunk, released_at}
 use Rattle.mem_model.specs.Release.{without_chunk, after_release, release_from, release_result}
 use Rattle.mem_model.specs.Retain.{retain_from, retain_result}
 use Rattle.mem_model.specs.Transfer.{moves_charge, transfer_from, transfer_result}
 use Rattle.mem_model.specs.TreeState.{TreeState, CallResult, unchanged, is_open}
-use Rattle.mem_model.proofs.LawfulLemmas.{lawful_after, lawful-without_chunk}
+use Rattle.mem_model.proofs.LawfulLemmas.{lawful-without_chunk}
 use Rattle.mem_model.proofs.LedgerCountLemmas.{count_of-with_count, count_of-with_count_other, AreInOrder-with_count, All-with_count}
 use Rattle.mem_model.proofs.OpenLemmas.{AllPairs-map}
 use Rattle.mem_model.proofs.ReferenceLemmas.{referred_lawful, referrer_open}
@@ -29,7 +30,7 @@ number_kept : (new old : Chunk) → (in_place_of new old).number ≡ old.number
 number_kept new old = cond_both (old.number == new.number) new old (λ chunk. chunk.number ≡ old.number) (λ same. sym (eqb-true old.number new.number same)) (λ _. refl)
 
 -- a lawful chunk in the place of the one of its number
-pub lawful-with_chunk : (state : TreeState) (new : Chunk) → IsLawfulState state → IsLawfulChunk state new → IsLawfulState (record state { chunks = with_chunk new state.chunks })
+pub lawful-with_chunk : (state : TreeState) (new : Chunk) → IsLawfulState state → IsLawfulChunk (is_open state) new → IsLawfulState (record state { chunks = with_chunk new state.chunks })
 lawful-with_chunk state new h lawful =
     let after : TreeState = record state { chunks = with_chunk new state.chunks } in
     record {
@@ -38,17 +39,18 @@ lawful-with_chunk state new h lawful =
       in_order = AllPairs-map (λ (older newer : Chunk). older.number < newer.number) (in_place_of new) state.chunks (λ i j d lt within.
           let less : (get_or state.chunks i d).number < (get_or state.chunks j d).number = h.in_order i j d lt within in
           omega (arith, less, number_kept new (get_or state.chunks i d), number_kept new (get_or state.chunks j d)));
-      chunks = All-map (IsLawfulChunk after) (in_place_of new) state.chunks (λ k d within.
+      chunks = All-map (IsLawfulChunk (is_open after)) (in_place_of new) state.chunks (λ k d within.
           let old = get_or state.chunks k d in
-          cond_both (old.number == new.number) new old (IsLawfulChunk after)
-          (λ _. lawful_after state after new lawful (omega arith) lawful.open_) (λ _. lawful_after state after old (h.chunks k d within) (omega arith) (h.chunks k d within).open_));
+          cond_both (old.number == new.number) new old (IsLawfulChunk (is_open after)) (λ _. lawful) (λ _. h.chunks k d within));
+      given = All-map (λ (chunk : Chunk). chunk.number ≤ state.drawn) (in_place_of new) state.chunks (λ k d within.
+          let given : (get_or state.chunks k d).number ≤ state.drawn = h.given k d within in
+          omega (arith, given, number_kept new (get_or state.chunks k d)));
     }
 
 -- a chunk to which an open allocator refers once more
-pub lawful-retained : (state : TreeState) (chunk : Chunk) (n : ℕ) → IsLawfulChunk state chunk → is_open state n ≡ true → IsLawfulChunk state (retained n chunk)
+pub lawful-retained : (state : TreeState) (chunk : Chunk) (n : ℕ) → IsLawfulChunk (is_open state) chunk → is_open state n ≡ true → IsLawfulChunk (is_open state) (retained n chunk)
 lawful-retained state chunk n h open_ = record {
   some = h.some;
-  given = h.given;
   some_bytes = h.some_bytes;
   few_bytes = h.few_bytes;
   in_order = AreInOrder-with_count chunk.ledgers n (count_of chunk.ledgers n + 1) h.in_order;
@@ -60,12 +62,11 @@ lawful-retained state chunk n h open_ = record {
 }
 
 -- and is charged for it
-pub lawful-moved : (state : TreeState) (chunk : Chunk) (target : AllocId) → IsLawfulChunk state chunk → is_open state target.0 ≡ true → IsLawfulChunk state (record (retained target.0 chunk) { owner = target })
+pub lawful-moved : (state : TreeState) (chunk : Chunk) (target : AllocId) → IsLawfulChunk (is_open state) chunk → is_open state target.0 ≡ true → IsLawfulChunk (is_open state) (record (retained target.0 chunk) { owner = target })
 lawful-moved state chunk target h open_ =
     let more = lawful-retained state chunk target.0 h open_ in
     record {
       some = more.some;
-      given = more.given;
       some_bytes = more.some_bytes;
       few_bytes = more.few_bytes;
       in_order = more.in_order;
@@ -74,10 +75,9 @@ lawful-moved state chunk target h open_ =
     }
 
 -- a chunk to which an allocator refers once less, while its owner refers to it
-pub lawful-released : (state : TreeState) (chunk : Chunk) (n : ℕ) → IsLawfulChunk state chunk → is_open state n ≡ true → has_ledger (released n chunk).owner.0 (released n chunk) ≡ true → IsLawfulChunk state (released n chunk)
+pub lawful-released : (state : TreeState) (chunk : Chunk) (n : ℕ) → IsLawfulChunk (is_open state) chunk → is_open state n ≡ true → has_ledger (released n chunk).owner.0 (released n chunk) ≡ true → IsLawfulChunk (is_open state) (released n chunk)
 lawful-released state chunk n h open_ owns = record {
   some = h.some;
-  given = h.given;
   some_bytes = h.some_bytes;
   few_bytes = h.few_bytes;
   in_order = AreInOrder-with_count chunk.ledgers n (count_of chunk.ledgers n - 1) h.in_order;
@@ -86,7 +86,7 @@ lawful-released state chunk n h open_ owns = record {
 }
 
 -- the chunks as a release leaves them
-pub lawful-after_release : (state : TreeState) (chunk : Chunk) (n : ℕ) → IsLawfulState state → IsLawfulChunk state chunk → is_open state n ≡ true → IsLawfulState (record state { chunks = after_release (released n chunk) state.chunks })
+pub lawful-after_release : (state : TreeState) (chunk : Chunk) (n : ℕ) → IsLawfulState state → IsLawfulChunk (is_open state) chunk → is_open state n ≡ true → IsLawfulState (record state { chunks = after_release (released n chunk) state.chunks })
 lawful-after_release state chunk n h lawful open_ =
     let left = released n chunk in
     cond_both (has_ledger left.owner.0 left) (with_chunk left state.chunks) (without_chunk left.number state.chunks) (λ chunks. IsLawfulState (record state { chunks = chunks }))

@@ -9,7 +9,8 @@ use Rattle.mem_num.specs.declared.buffer_ref.Ref.{Ref}
 use Rattle.mem_num.specs.declared.solo_refused.SoloRefused.TheVariants.{Released as RefusedRelease, Closed}
 use Rattle.mem_model.specs.Chunk.{Chunk, has_ledger, retained, released, in_place_of, with_chunk}
 use Rattle.mem_model.specs.Ledgers.{count_of, total_of}
-use Rattle.mem_model.specs.LawfulState.{IsLawfulChunk, IsLawfulState}
+use Rattle.mem_model.specs.LawfulChunk.{IsLawfulChunk}
+use Rattle.mem_model.specs.LawfulState.{IsLawfulState}
 use Rattle.mem_model.specs.PeakSample.{PeakSample}
 use Rattle.mem_model.specs.PlainTree.{SampledTree, Answers, HasFewReferences, IsReferred, IsSoundTree}
 use Rattle.mem_model.specs.References.{HasRoomFor, refers_to, referred_chunk, reference_to, released_at}
@@ -47,12 +48,12 @@ pub few-count : (chunk : Chunk) (n : ℕ) → HasFewReferences chunk → count_o
 few-count chunk n few = omega (arith, few, count_of-le-total_of chunk.ledgers n)
 
 -- a chunk with a reference more has few
-pub few-retained : (state : TreeState) (chunk : Chunk) (n : ℕ) → IsLawfulChunk state chunk → total_of chunk.ledgers + 1 < 2 ^ 32 → HasFewReferences (retained n chunk)
+pub few-retained : (state : TreeState) (chunk : Chunk) (n : ℕ) → IsLawfulChunk (is_open state) chunk → total_of chunk.ledgers + 1 < 2 ^ 32 → HasFewReferences (retained n chunk)
 few-retained state chunk n lawful room =
     omega (arith, room, total_of-with_count chunk.ledgers n (count_of chunk.ledgers n + 1) lawful.in_order)
 
 -- and one with a reference less
-pub few-released : (state : TreeState) (chunk : Chunk) (n : ℕ) → IsLawfulChunk state chunk → HasFewReferences chunk → HasFewReferences (released n chunk)
+pub few-released : (state : TreeState) (chunk : Chunk) (n : ℕ) → IsLawfulChunk (is_open state) chunk → HasFewReferences chunk → HasFewReferences (released n chunk)
 few-released state chunk n lawful few =
     omega (arith, few, total_of-with_count chunk.ledgers n (count_of chunk.ledgers n - 1) lawful.in_order)
 

@@ -8,7 +8,8 @@ use Rattle.mem_model.specs.Chunk.{Chunk, has_ledger}
 use Rattle.mem_model.specs.Ledgers.{count_at, count_of}
 use Rattle.mem_model.specs.LedgerPlace.{place_in, IsLedgerAt}
 use Rattle.mem_model.specs.TreeState.{TreeState, is_open}
-use Rattle.mem_model.specs.LawfulState.{IsLawfulChunk, IsLawfulState}
+use Rattle.mem_model.specs.LawfulChunk.{IsLawfulChunk}
+use Rattle.mem_model.specs.LawfulState.{IsLawfulState}
 use Rattle.mem_model.specs.References.{refers_to, referred_chunk}
 use Rattle.mem_num.specs.declared.buffer_ref.Ref.{Ref}
 use Rattle.std.proofs.lemmas.List.Elements.{All-head, All-tail}
@@ -48,7 +49,7 @@ ledger-counted xs k d counted within =
     omega arith
 
 -- whoever refers to a chunk is open
-pub referrer_open : (state : TreeState) (chunk : Chunk) (n : ℕ) → IsLawfulChunk state chunk → 1 ≤ count_of chunk.ledgers n → is_open state n ≡ true
+pub referrer_open : (state : TreeState) (chunk : Chunk) (n : ℕ) → IsLawfulChunk (is_open state) chunk → 1 ≤ count_of chunk.ledgers n → is_open state n ≡ true
 referrer_open state chunk n lawful some =
     let place = place_in chunk.ledgers n in
     let found : IsLedgerAt chunk.ledgers n place = place_in-found chunk.ledgers n lawful.in_order some in
@@ -56,7 +57,7 @@ referrer_open state chunk n lawful some =
     subst (λ (ledger : Ledger). is_open state ledger.at.0 ≡ true) (found.ledger d) (lawful.open_ place d found.within)
 
 -- the owner is open
-pub owner_open : (state : TreeState) (chunk : Chunk) → IsLawfulChunk state chunk → is_open state chunk.owner.0 ≡ true
+pub owner_open : (state : TreeState) (chunk : Chunk) → IsLawfulChunk (is_open state) chunk → is_open state chunk.owner.0 ≡ true
 owner_open state chunk lawful = referrer_open state chunk chunk.owner.0 lawful lawful.owner
 
 -- what a search finds is of the list, and passes
@@ -72,16 +73,16 @@ found P test (y ∷ ys) x all is = elim (cases_Bool (test y)) [
 ]
 
 -- the chunk of a reference is lawful, and its allocator refers to it
-pub referred_lawful : (state : TreeState) (of : Ref) (chunk : Chunk) → IsLawfulState state → referred_chunk state of ≡ Some chunk → IsLawfulChunk state chunk × (1 ≤ count_of chunk.ledgers of.alloc.0)
+pub referred_lawful : (state : TreeState) (of : Ref) (chunk : Chunk) → IsLawfulState state → referred_chunk state of ≡ Some chunk → IsLawfulChunk (is_open state) chunk × (1 ≤ count_of chunk.ledgers of.alloc.0)
 referred_lawful state of chunk lawful is =
-    let both = found (IsLawfulChunk state) (refers_to of) state.chunks chunk lawful.chunks is in
+    let both = found (IsLawfulChunk (is_open state)) (refers_to of) state.chunks chunk lawful.chunks is in
     let parts = and_parts (chunk.number == of.chunk) (has_ledger of.alloc.0 chunk) both.1 in
     (both.0, ltb-true 0 (count_of chunk.ledgers of.alloc.0) parts.1)
 
 -- and it has the reference's number
 pub referred_number : (state : TreeState) (of : Ref) (chunk : Chunk) → IsLawfulState state → referred_chunk state of ≡ Some chunk → chunk.number ≡ of.chunk
 referred_number state of chunk lawful is =
-    let both = found (IsLawfulChunk state) (refers_to of) state.chunks chunk lawful.chunks is in
+    let both = found (IsLawfulChunk (is_open state)) (refers_to of) state.chunks chunk lawful.chunks is in
     eqb-true chunk.number of.chunk (and_parts (chunk.number == of.chunk) (has_ledger of.alloc.0 chunk) both.1).0
 
 -- a search finds what passes where the earlier ones that pass another test pass it too

@@ -8,10 +8,11 @@ use Rattle.mem_model.specs.declared.ledger.Ledger.{Ledger}
 use Rattle.mem_model.specs.Calls.{references_in}
 use Rattle.mem_model.specs.Chunk.{Chunk, has_ledger, next_owner, retained, released, with_chunk}
 use Rattle.mem_model.specs.Ledgers.{AreInOrder, count_of, total_of}
-use Rattle.mem_model.specs.LawfulState.{IsLawfulChunk, IsLawfulState}
+use Rattle.mem_model.specs.LawfulChunk.{IsLawfulChunk}
+use Rattle.mem_model.specs.LawfulState.{IsLawfulState}
 use Rattle.mem_model.specs.References.{referred_chunk}
 use Rattle.mem_model.specs.Release.{without_chunk, after_release}
-use Rattle.mem_model.specs.TreeState.{TreeState}
+use Rattle.mem_model.specs.TreeState.{TreeState, is_open}
 use Rattle.mem_model.proofs.LedgerCountLemmas.{total_of-with_count, AreInOrder-with_count}
 use Rattle.mem_model.proofs.ChunkSumLemmas.{sum_by-with_chunk, sum_by-without_chunk}
 use Rattle.mem_model.proofs.ReferenceLemmas.{ledger-counted, referred_lawful, referred_number, referred_is_numbered}
@@ -27,11 +28,11 @@ references-more state of chunk new h is number more =
     omega (arith, more, sum_by-with_chunk total_on of.chunk new chunk state.chunks (number ∙ referred_number state of chunk h is) h.in_order (referred_is_numbered state of chunk h is))
 
 -- retaining gives it that one
-pub total-retained : (state : TreeState) (chunk : Chunk) (n : ℕ) → IsLawfulChunk state chunk → total_on (retained n chunk) ≡ total_on chunk + 1
+pub total-retained : (state : TreeState) (chunk : Chunk) (n : ℕ) → IsLawfulChunk (is_open state) chunk → total_on (retained n chunk) ≡ total_on chunk + 1
 total-retained state chunk n h = omega (arith, total_of-with_count chunk.ledgers n (count_of chunk.ledgers n + 1) h.in_order)
 
 -- releasing takes one
-total-released : (state : TreeState) (chunk : Chunk) (n : ℕ) → IsLawfulChunk state chunk → 1 ≤ count_of chunk.ledgers n → total_on (released n chunk) + 1 ≡ total_on chunk
+total-released : (state : TreeState) (chunk : Chunk) (n : ℕ) → IsLawfulChunk (is_open state) chunk → 1 ≤ count_of chunk.ledgers n → total_on (released n chunk) + 1 ≡ total_on chunk
 total-released state chunk n h some = omega (arith, total_of-with_count chunk.ledgers n (count_of chunk.ledgers n - 1) h.in_order)
 
 -- the next owner refers to a chunk to which anyone does

@@ -1,8 +1,7 @@
 -- What holds of every tree that calls can make.
-use Rattle.std.specs.Prelude.{◌≡◌, ℕ, ◌<◌, ◌≤◌, ◌^◌, true, All, AllPairs, None}
+use Rattle.std.specs.Prelude.{◌≡◌, ℕ, ◌<◌, ◌≤◌, ◌^◌, All, AllPairs, None}
 use Rattle.mem_model.specs.declared.tree_node.TreeNode.{TreeNode}
-use Rattle.mem_model.specs.Chunk.{Chunk}
-use Rattle.mem_model.specs.Ledgers.{AreInOrder, count_of}
+use Rattle.mem_model.specs.LawfulChunk.{IsLawfulChunk}
 use Rattle.mem_model.specs.TreeNode.{IsAllocatorTree}
 use Rattle.mem_model.specs.Child.{most_nodes}
 use Rattle.mem_model.specs.TreeState.{TreeState, is_open}
@@ -16,19 +15,10 @@ pub record IsWithinBounds (next : ℕ) (node : TreeNode) : Type 0 where
   pub limited : node.limit < 2 ^ 63
   pub root : node.parent ≡ None → node.reservation ≡ 0
 
--- a lawful chunk: its number was given, its owner, which is charged for it, refers to it, and everyone who refers to it is open
-pub record IsLawfulChunk (state : TreeState) (chunk : Chunk) : Type 0 where
-  pub some : 1 ≤ chunk.number
-  pub given : chunk.number ≤ state.drawn
-  pub some_bytes : 1 ≤ chunk.size
-  pub few_bytes : chunk.size ≤ 2 ^ 30
-  pub in_order : AreInOrder chunk.ledgers
-  pub owner : 1 ≤ count_of chunk.ledgers chunk.owner.0
-  pub open_ : All (λ ledger. is_open state ledger.at.0 ≡ true) chunk.ledgers
-
--- the nodes are a tree, and chunks stand in order of number, so that no two have the same
+-- the nodes are a tree, each chunk is lawful and its number was given, and chunks stand in order of number, so that no two have the same
 pub record IsLawfulState (state : TreeState) : Type 0 where
   pub tree : IsAllocatorTree state.nodes
   pub nodes : All (IsWithinBounds state.next) state.nodes
   pub in_order : AllPairs (λ older newer. older.number < newer.number) state.chunks
-  pub chunks : All (IsLawfulChunk state) state.chunks
+  pub chunks : All (IsLawfulChunk (is_open state)) state.chunks
+  pub given : All (λ chunk. chunk.number ≤ state.drawn) state.chunks

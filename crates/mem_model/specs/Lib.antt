@@ -11,6 +11,7 @@ pub mod PeakSample
 pub mod Ledgers
 pub mod LedgerPlace
 pub mod Chunk
+pub mod LawfulChunk
 pub mod TreeState
 pub mod Grant
 pub mod Child

@@ -9,7 +9,8 @@ use Rattle.mem_model.specs.Ledgers.{count_of, total_of}
 use Rattle.mem_model.specs.References.{referred_chunk}
 use Rattle.mem_model.specs.TreeState.{TreeState, CallResult, opened, is_open}
 use Rattle.mem_model.specs.Child.{most_nodes}
-use Rattle.mem_model.specs.LawfulState.{IsLawfulChunk, IsLawfulState}
+use Rattle.mem_model.specs.LawfulChunk.{IsLawfulChunk}
+use Rattle.mem_model.specs.LawfulState.{IsLawfulState}
 
 -- a tree, and the moments at which its peaks were measured, the oldest first
 pub record SampledTree : Type 0 where
@@ -40,7 +41,7 @@ pub record IsSoundTree (tree : SampledTree) : Type 0 where
 -- the chunk of a reference that wasn't given back
 pub record IsReferred (state : TreeState) (of : Ref) (chunk : Chunk) : Type 0 where
   pub is : referred_chunk state of ≡ Some chunk
-  pub lawful : IsLawfulChunk state chunk
+  pub lawful : IsLawfulChunk (is_open state) chunk
   pub some : 1 ≤ count_of chunk.ledgers of.alloc.0
   pub few : HasFewReferences chunk
 
