@@ -21,6 +21,7 @@ pub mod ChunkSumLemmas
 pub mod ReferenceSumLemmas
 pub mod CallBalanceLemmas
 pub mod CallsLemmas
+pub mod RunLemmas
 pub mod PlainLemmas
 pub mod PlainCallLemmas
 pub mod PlainReferenceLemmas

@@ -1,12 +1,18 @@
--- Lists of calls on a tree: the state that they leave, and the references that they give and give back.
-use Rattle.std.specs.Prelude.{◌≡◌, ◌≢◌, ℕ, ◌+◌, ◌<◌, ◌≤◌, ◌^◌, ◌==◌, true, false, List, [], ◌∷◌, All, sum_by, if◌then◌else◌, is_ok, Result, Ok, Err, ⊤}
+-- Lists of calls on a tree: what they answer and leave, the peaks that they raise, and the references that they give and give back.
+use Rattle.std.specs.Prelude.{◌≡◌, ◌≢◌, ℕ, ◌+◌, ◌<◌, ◌≤◌, ◌^◌, ◌==◌, Bool, true, false, List, [], ◌∷◌, ◌++◌, All, sum_by, if◌then◌else◌, is_ok, Result, Ok, Err, ⊤}
 use Rattle.mem_num.specs.declared.alloc_id.AllocId.{AllocId}
 use Rattle.mem_num.specs.declared.buffer_ref.Ref.{Ref}
 use Rattle.mem_num.specs.declared.buffer_refused.BufferRefused.{BufferRefused}
+use Rattle.mem_num.specs.declared.child_refused.ChildRefused.{ChildRefused}
+use Rattle.mem_num.specs.declared.not_closed.NotClosed.{NotClosed}
+use Rattle.mem_num.specs.declared.released.Released.{Released}
+use Rattle.mem_num.specs.declared.solo_refused.SoloRefused.{SoloRefused}
 use Rattle.mem_model.specs.Charge.{charged_at}
 use Rattle.mem_model.specs.Chunk.{Chunk, charges_of}
 use Rattle.mem_model.specs.Ledgers.{count_of, total_of}
-use Rattle.mem_model.specs.TreeState.{TreeState, is_open, held_at, uses_of}
+use Rattle.mem_model.specs.MeasuredTree.{MeasuredTree, IsAfterCall}
+use Rattle.mem_model.specs.PeakSample.{PeakSample}
+use Rattle.mem_model.specs.TreeState.{TreeState, CallResult, is_open, held_at, uses_of}
 use Rattle.mem_model.specs.Grant.{grant_result}
 use Rattle.mem_model.specs.Child.{child_result}
 use Rattle.mem_model.specs.Close.{close_result}
@@ -14,28 +20,64 @@ use Rattle.mem_model.specs.Retain.{retain_result}
 use Rattle.mem_model.specs.Transfer.{transfer_result}
 use Rattle.mem_model.specs.Release.{release_result}
 
--- a call on a tree, with its arguments
-pub data TreeCall : Type 0 where
-  Child : (parent : AllocId) → (reservation limit : ℕ) → TreeCall
-  Close : (at : AllocId) → TreeCall
-  Grant : (at : AllocId) → (request : ℕ) → TreeCall
-  Retain : (of : Ref) → (target : AllocId) → TreeCall
-  Transfer : (of : Ref) → (target : AllocId) → TreeCall
-  Release : (of : Ref) → TreeCall
+-- a call on a tree, with its arguments, which names a reference by an R
+pub data CallBy (R : Type 0) : Type 0 where
+  Child : (parent : AllocId) → (reservation limit : ℕ) → CallBy R
+  Close : (at : AllocId) → CallBy R
+  Grant : (at : AllocId) → (request : ℕ) → CallBy R
+  Retain : (of : R) → (target : AllocId) → CallBy R
+  Transfer : (of : R) → (target : AllocId) → CallBy R
+  Release : (of : R) → CallBy R
+
+-- a call as a tree takes it
+abbrev pub TreeCall : Type 0
+TreeCall = CallBy Ref
+
+-- what a call answers, by its kind
+pub data CallAnswer : Type 0 where
+  ToChild : (answer : Result AllocId ChildRefused) → CallAnswer
+  ToClose : (answer : Result (Unit {0}) NotClosed) → CallAnswer
+  ToGrant : (answer : Result Ref BufferRefused) → CallAnswer
+  ToRetain : (answer : Result Ref SoloRefused) → CallAnswer
+  ToTransfer : (answer : Result (Ref × Bool) SoloRefused) → CallAnswer
+  ToRelease : (answer : Result Bool Released) → CallAnswer
+
+-- what a call of one kind answers, among answers of all kinds
+abbrev pub answered : {A : Type 0} → (A → CallAnswer) → CallResult A → CallResult CallAnswer
+answered kind result = record { answer = kind result.answer; state = result.state; samples = result.samples }
+
+-- what a call answers, leaves and samples
+abbrev pub call_result : TreeState → TreeCall → CallResult CallAnswer
+call_result state (Child parent reservation limit) = answered ToChild (child_result state parent reservation limit)
+call_result state (Close at) = answered ToClose (close_result state at)
+call_result state (Grant at request) = answered ToGrant (grant_result state at request)
+call_result state (Retain of target) = answered ToRetain (retain_result state of target)
+call_result state (Transfer of target) = answered ToTransfer (transfer_result state of target)
+call_result state (Release of) = answered ToRelease (release_result state of)
 
 -- the state that a call leaves, whatever it answers
 abbrev pub after_call : TreeState → TreeCall → TreeState
-after_call state (Child parent reservation limit) = (child_result state parent reservation limit).state
-after_call state (Close at) = (close_result state at).state
-after_call state (Grant at request) = (grant_result state at request).state
-after_call state (Retain of target) = (retain_result state of target).state
-after_call state (Transfer of target) = (transfer_result state of target).state
-after_call state (Release of) = (release_result state of).state
+after_call state call = (call_result state call).state
 
 -- the state that the calls leave, one after the other
 abbrev pub state_after : TreeState → List TreeCall → TreeState
 state_after state [] = state
 state_after state (call ∷ calls) = state_after (after_call state call) calls
+
+-- what the calls answer, in their order
+abbrev pub answers_of : TreeState → List TreeCall → List CallAnswer
+answers_of state [] = []
+answers_of state (call ∷ calls) = (call_result state call).answer ∷ answers_of (after_call state call) calls
+
+-- the moments at which the calls measure peaks, the oldest first
+abbrev pub samples_of : TreeState → List TreeCall → List PeakSample
+samples_of state [] = []
+samples_of state (call ∷ calls) = (call_result state call).samples ++ samples_of (after_call state call) calls
+
+-- the calls lead from one tree with its peaks to another
+abbrev pub LeadTo : MeasuredTree → List TreeCall → MeasuredTree → Type 0
+LeadTo old [] new = new ≡ old
+LeadTo old (call ∷ calls) new = (next : MeasuredTree) × IsAfterCall old (call_result old.state call) next × LeadTo next calls new
 
 -- a call whose own numbers are within bounds: a child reserves at most 2^40 bytes, and its limit is below 2^63
 abbrev pub IsBoundedCall : TreeCall → Type 0

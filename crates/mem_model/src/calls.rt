@@ -1,16 +1,28 @@
 //! The laws of lists of calls on a tree. Each function does nothing: its contract is a law, which the check proves.
 ghost use Rattle.std.specs.Prelude.{◌≡◌, ◌≢◌, ℕ, ◌+◌, ◌<◌, ◌^◌, List, All, AllPairs, sum_by};
 ghost use Rattle.mem_model.specs.declared.tree_node.TreeNode.{TreeNode};
-ghost use Rattle.mem_model.specs.Calls.{TreeCall, after_call, state_after, AreBoundedCalls, given_by, returned_by, references_given, references_returned, references_in, IsChargedOnce, HasRootAlone, IsEmptyTree};
+ghost use Rattle.mem_model.specs.Calls.{TreeCall, after_call, state_after, samples_of, LeadTo, AreBoundedCalls, given_by, returned_by, references_given, references_returned, references_in, IsChargedOnce, HasRootAlone, IsEmptyTree};
 ghost use Rattle.mem_model.specs.Charge.{charged_at};
 ghost use Rattle.mem_model.specs.Chunk.{Chunk};
 ghost use Rattle.mem_model.specs.LawfulState.{IsLawfulState};
+ghost use Rattle.mem_model.specs.MeasuredTree.{MeasuredTree, IsOpened, peak_at};
+ghost use Rattle.mem_model.specs.PeakSample.{peak_of};
 ghost use Rattle.mem_model.specs.TreeState.{TreeState, opened, charges_in};
 
 /// Every state that calls reach from an opening is lawful.
 pub fn states_that_calls_reach_are_lawful()
     ensures { (limit : ℕ) (calls : List TreeCall) → limit < 2 ^ 63 → AreBoundedCalls calls →
         IsLawfulState (state_after (opened limit) calls) }
+{}
+
+/// The peaks of a tree that calls lead to from an opening, each raising them by its samples, are the greatest over all samples: so
+/// what each call is said to do to peaks says what they are in the end.
+pub fn peaks_are_the_greatest_of_the_samples()
+    ensures state { (limit : ℕ) (calls : List TreeCall) (first last : MeasuredTree) →
+        IsOpened limit first → LeadTo first calls last → last.state ≡ state_after (opened limit) calls }
+    ensures peaks { (limit : ℕ) (calls : List TreeCall) (first last : MeasuredTree) →
+        IsOpened limit first → LeadTo first calls last →
+        (n : ℕ) → peak_at last n ≡ peak_of (samples_of (opened limit) calls) n }
 {}
 
 /// In such a state each live chunk is charged to exactly one allocator, which is open and refers to it, as an

@@ -27,8 +27,8 @@ pub use balance::{
 pub use bound::fits;
 pub use calls::{
     allocators_are_charged_the_live_chunks, calls_that_give_all_back_leave_an_empty_tree,
-    each_live_chunk_is_charged_to_one_allocator, references_balance,
-    states_that_calls_reach_are_lawful,
+    each_live_chunk_is_charged_to_one_allocator, peaks_are_the_greatest_of_the_samples,
+    references_balance, states_that_calls_reach_are_lawful,
 };
 pub use charge::{Charge, charged_at};
 pub use chunk::{Chunk, charges_of};
