@@ -22,6 +22,7 @@ pub mod ReferenceSumLemmas
 pub mod CallBalanceLemmas
 pub mod CallsLemmas
 pub mod RunLemmas
+pub mod PlannedLemmas
 pub mod PlainLemmas
 pub mod PlainCallLemmas
 pub mod PlainReferenceLemmas

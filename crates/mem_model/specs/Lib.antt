@@ -25,5 +25,6 @@ pub mod Headroom
 pub mod MeasuredTree
 pub mod LawfulState
 pub mod Calls
+pub mod PlannedCalls
 pub mod PlainTree
 pub mod PlainFields

@@ -14,6 +14,7 @@ mod ledger;
 mod ledgers;
 mod peak_sample;
 mod plain_tree;
+mod planned_calls;
 mod request;
 mod sample;
 mod tree_node;
@@ -45,6 +46,9 @@ pub use ledger::Ledger;
 pub use ledgers::{count_of, total_of, with_count};
 pub use peak_sample::{PeakSample, peak_of};
 pub use plain_tree::PlainTree;
+pub use planned_calls::{
+    a_place_without_a_reference_changes_nothing, planned_calls_run_as_the_calls_that_they_come_to,
+};
 pub use request::{is_past_limit, levels_of, refusal_of, refusing_level};
 pub use sample::{force_sample, request_sample};
 pub use tree_node::{TreeNode, is_allocator_tree};
