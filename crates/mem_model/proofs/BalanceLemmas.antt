@@ -83,7 +83,7 @@ same_node nodes x e rises at place same = elim (cases_eq at.0 place.0) [
       let on : eqb x.number.0 e.number.0 ≡ true = eq-eqb _ _ same in cc)
 ]
 
-and_true : (b : Bool) → (b && true) ≡ b
+pub and_true : (b : Bool) → (b && true) ≡ b
 and_true true = refl
 and_true false = refl
 

@@ -25,7 +25,7 @@ use Rattle.mem_model.proofs.OpenLemmas.{is_open_at, open_from, count_none}
 use Rattle.mem_model.proofs.CallBalanceLemmas.{references-call}
 
 -- a call within bounds keeps the law
-lawful-after_call : (state : TreeState) (call : TreeCall) → IsLawfulState state → IsBoundedCall call → IsLawfulState (after_call state call)
+pub lawful-after_call : (state : TreeState) (call : TreeCall) → IsLawfulState state → IsBoundedCall call → IsLawfulState (after_call state call)
 lawful-after_call state (Child parent reservation limit) h bounded = lawful-child state parent reservation limit h bounded.0 bounded.1
 lawful-after_call state (Close at) h bounded = lawful-close_call state at h
 lawful-after_call state (Grant at request) h bounded = lawful-grant state at request h

@@ -17,7 +17,7 @@ use Rattle.mem_model.proofs.OpenLemmas.{is_open_at, pairs_head, pairs_tail}
 use Rattle.mem_model.proofs.ReferenceLemmas.{owner_open}
 
 -- a sum of nothings
-sum_by-none : {X : Type 0} (f : X → ℕ) (xs : List X) → All (λ x. f x ≡ 0) xs → sum_by f xs ≡ 0
+pub sum_by-none : {X : Type 0} (f : X → ℕ) (xs : List X) → All (λ x. f x ≡ 0) xs → sum_by f xs ≡ 0
 sum_by-none f [] none = refl
 sum_by-none f (x ∷ xs) none =
     omega (arith, sum_by-cons f x xs, All-head (λ y. f y ≡ 0) x xs none, sum_by-none f xs (All-tail (λ y. f y ≡ 0) x xs none))

@@ -38,7 +38,7 @@ path_past (node ∷ newer) older at none =
     cond-false (eqb at.0 node.number.0) _ _ (All-head (λ x. eqb at.0 x.number.0 ≡ false) node newer none)
     ∙ path_past newer older at (All-tail (λ x. eqb at.0 x.number.0 ≡ false) node newer none)
 
-reversed : (P : TreeNode → Type 0) (nodes : List TreeNode) → All P nodes → All P (reverse nodes)
+pub reversed : (P : TreeNode → Type 0) (nodes : List TreeNode) → All P nodes → All P (reverse nodes)
 reversed P nodes h k d within =
     let inside : k < length nodes = omega (arith, within, length-reverse nodes) in
     subst P (sym (get_or-reverse nodes k d inside)) (h (length nodes - 1 - k) d (omega (arith, inside)))
@@ -76,7 +76,7 @@ path_of-up_to nodes e place at rises upto =
     ap (λ xs. path_of xs at.0) (up_to nodes e place) ∙ path_of-append (before ++ e ∷ []) (drop (place.0 + 1) nodes) at (none_behind nodes e place at.0 rises upto)
     ∙ ap (λ xs. path_from xs (Some at)) (reverse-append before (e ∷ []))
 
-path_of-node : (nodes : List TreeNode) (e : TreeNode) (place : Contains nodes e) → Rises nodes → path_of nodes e.number.0 ≡ e ∷ path_from (reverse (take place.0 nodes)) e.parent
+pub path_of-node : (nodes : List TreeNode) (e : TreeNode) (place : Contains nodes e) → Rises nodes → path_of nodes e.number.0 ≡ e ∷ path_from (reverse (take place.0 nodes)) e.parent
 path_of-node nodes e place rises = path_of-up_to nodes e place e.number rises (omega arith) ∙ cond-true (eqb e.number.0 e.number.0) _ _ (eq-eqb e.number.0 e.number.0 refl)
 
 path_from-none : (nodes : List TreeNode) → path_from nodes None ≡ []

@@ -18,7 +18,7 @@ use Rattle.mem_model.proofs.ReferenceLemmas.{ledger-counted, referrer_open}
 use Rattle.mem_model.proofs.OpenLemmas.{is_open_at, open_parts, open_from, Any-map, AllPairs-map, none_counted, count_none}
 
 -- a fact of a node that a closed one keeps
-closed_both : (P : TreeNode → Type 0) (n : ℕ) (node : TreeNode) → P (record node { closed = true }) → P node → P (closed_where n node)
+pub closed_both : (P : TreeNode → Type 0) (n : ℕ) (node : TreeNode) → P (record node { closed = true }) → P node → P (closed_where n node)
 closed_both P n node closed_ same = cond_both (eqb node.number.0 n) (record node { closed = true }) node P (λ _. closed_) (λ _. same)
 
 -- closing keeps a node's number
@@ -105,7 +105,7 @@ lawful-close state n h unused =
     }
 
 -- an identifier that has the number n
-numbered : (n : ℕ) (parent : Option AllocId) → is_number n parent ≡ true → (p : AllocId) × (parent ≡ Some p) × (p.0 ≡ n)
+pub numbered : (n : ℕ) (parent : Option AllocId) → is_number n parent ≡ true → (p : AllocId) × (parent ≡ Some p) × (p.0 ≡ n)
 numbered n None h = absurd (true≢false (sym h))
 numbered n (Some p) h = (p, refl, eqb-true p.0 n h)
 

@@ -28,3 +28,4 @@ pub mod PlainCallLemmas
 pub mod PlainReferenceLemmas
 pub mod PathLemmas
 pub mod HeadroomLemmas
+pub mod LevelLemmas

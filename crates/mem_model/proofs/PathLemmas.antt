@@ -44,7 +44,7 @@ pub path_step_past : (newest : List TreeNode) (i : ℕ) (d : TreeNode) (next : O
 path_step_past newest i d next whole path within other so_far = so_far ∙ ap (λ xs. path ++ xs) (path_past newest i d next within other)
 
 -- what holds of all nodes holds of those on a path
-All-path_from : (P : TreeNode → Type 0) (newest : List TreeNode) (next : Option AllocId) → All P newest → All P (path_from newest next)
+pub All-path_from : (P : TreeNode → Type 0) (newest : List TreeNode) (next : Option AllocId) → All P newest → All P (path_from newest next)
 All-path_from P [] next h = h
 All-path_from P (node ∷ older) next h =
     let rest = All-tail P node older h in

@@ -47,7 +47,7 @@ and_no true = refl
 and_no false = refl
 
 -- one test after another is both
-filter-filter : {X : Type 0} (p q : X → Bool) (xs : List X) → filter p (filter q xs) ≡ filter (λ x. q x && p x) xs
+pub filter-filter : {X : Type 0} (p q : X → Bool) (xs : List X) → filter p (filter q xs) ≡ filter (λ x. q x && p x) xs
 filter-filter p q [] = refl
 filter-filter p q (x ∷ xs) = elim (cases_Bool (q x)) [
   | inl yes' ↦ rw yes' (elim (cases_Bool (p x)) [ inl also ↦ rw also (ap (λ ys. x ∷ ys) (filter-filter p q xs)) | inr no' ↦ rw no' (filter-filter p q xs) ])
@@ -114,7 +114,7 @@ listed_below (level ∷ levels) low n =
       | inr other ↦ elim (cases_Bool (ltb low level.number.0)) [ inl below ↦ rw (below, other) rest | inr above ↦ rw (above, other) rest ]
     ]
 
-listed_all : (levels : List TreeNode) (n : ℕ) → list_any (λ id. eqb id.0 n) (map (λ level. level.number) levels) ≡ (list_any (λ node. eqb node.number.0 n) levels && true)
+pub listed_all : (levels : List TreeNode) (n : ℕ) → list_any (λ id. eqb id.0 n) (map (λ level. level.number) levels) ≡ (list_any (λ node. eqb node.number.0 n) levels && true)
 listed_all [] n = refl
 listed_all (level ∷ levels) n = elim (cases_Bool (eqb level.number.0 n)) [ inl same ↦ rw same refl | inr other ↦ rw other (listed_all levels n) ]
 

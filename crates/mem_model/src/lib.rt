@@ -12,6 +12,7 @@ mod held;
 mod laws;
 mod ledger;
 mod ledgers;
+mod path;
 mod peak_sample;
 mod plain_tree;
 mod planned_calls;
@@ -44,6 +45,7 @@ pub use laws::{
 };
 pub use ledger::Ledger;
 pub use ledgers::{count_of, total_of, with_count};
+pub use path::levels_stand_on_the_path_to_the_root;
 pub use peak_sample::{PeakSample, peak_of};
 pub use plain_tree::PlainTree;
 pub use planned_calls::{
