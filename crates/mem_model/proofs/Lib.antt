@@ -11,6 +11,7 @@ pub mod TreeLemmas
 pub mod PeakLemmas
 pub mod OpenLemmas
 pub mod ReferenceLemmas
+pub mod OwnerLemmas
 pub mod LawfulLemmas
 pub mod LawfulBoundLemmas
 pub mod LawfulCloseLemmas
@@ -23,9 +24,11 @@ pub mod CallBalanceLemmas
 pub mod CallsLemmas
 pub mod RunLemmas
 pub mod PlannedLemmas
+pub mod DrawnLemmas
 pub mod PlainLemmas
 pub mod PlainCallLemmas
 pub mod PlainReferenceLemmas
 pub mod PathLemmas
 pub mod HeadroomLemmas
 pub mod LevelLemmas
+pub mod CoverLemmas

@@ -24,6 +24,7 @@ pub mod Release
 pub mod Headroom
 pub mod MeasuredTree
 pub mod LawfulState
+pub mod DrawnNumbers
 pub mod Calls
 pub mod PlannedCalls
 pub mod PlainTree

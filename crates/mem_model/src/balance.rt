@@ -1,5 +1,5 @@
 //! The laws of numbers that are kept in place of sums. Each function does nothing: its contract is a law, which the check proves.
-ghost use Rattle.std.specs.Prelude.{◌≡◌, ℕ, ◌+◌, ◌-◌, ◌<◌, false, List, Some};
+ghost use Rattle.std.specs.Prelude.{◌≡◌, ℕ, ◌+◌, ◌-◌, ◌<◌, ◌≤◌, min, false, List, Some};
 ghost use Rattle.std.specs.List.{Contains};
 ghost use Rattle.mem_model.specs.declared.charge.Charge.{Charge};
 ghost use Rattle.mem_model.specs.declared.tree_node.TreeNode.{TreeNode};
@@ -12,6 +12,21 @@ ghost use Rattle.mem_model.specs.Reservation.{beyond_reservation};
 pub fn numbers_that_balance_are_held()
     ensures { (nodes : List TreeNode) (charges : List Charge) (held : ℕ → ℕ) →
         IsAllocatorTree nodes → Balances nodes charges held → (n : ℕ) → held n ≡ held_of nodes charges n }
+{}
+
+/// What is held balances, at every number: the converse.
+pub fn what_is_held_balances()
+    ensures { (nodes : List TreeNode) (charges : List Charge) →
+        IsAllocatorTree nodes → Balances nodes charges (held_of nodes charges) }
+{}
+
+/// Where anything is passed up, it is what is held beyond the reservation, or all that was added, whichever is less, as
+/// `Accountant.allocate` of Arrow Java reckons it; within the reservation it is nothing.
+pub fn what_is_passed_up_is_beyond_the_reservation()
+    ensures beyond { (reservation low high : ℕ) → low ≤ high → 0 < beyond_reservation reservation low high →
+        beyond_reservation reservation low high ≡ min (high - reservation) (high - low) }
+    ensures within { (reservation low high : ℕ) → high ≤ reservation →
+        beyond_reservation reservation low high ≡ 0 }
 {}
 
 /// What a level passes up is what its parent counts more: where an amount is still to be added at an open node, adding it there

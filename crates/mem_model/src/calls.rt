@@ -1,13 +1,14 @@
 //! The laws of lists of calls on a tree. Each function does nothing: its contract is a law, which the check proves.
-ghost use Rattle.std.specs.Prelude.{◌≡◌, ◌≢◌, ℕ, ◌+◌, ◌<◌, ◌^◌, List, All, AllPairs, sum_by};
+ghost use Rattle.std.specs.Prelude.{◌≡◌, ◌≢◌, ℕ, ◌+◌, ◌<◌, ◌≤◌, ◌^◌, List, length, All, AllPairs, sum_by};
 ghost use Rattle.mem_model.specs.declared.tree_node.TreeNode.{TreeNode};
 ghost use Rattle.mem_model.specs.Calls.{TreeCall, after_call, state_after, samples_of, LeadTo, AreBoundedCalls, given_by, returned_by, references_given, references_returned, references_in, IsChargedOnce, HasRootAlone, IsEmptyTree};
 ghost use Rattle.mem_model.specs.Charge.{charged_at};
 ghost use Rattle.mem_model.specs.Chunk.{Chunk};
+ghost use Rattle.mem_model.specs.DrawnNumbers.{DrawsNumbers};
 ghost use Rattle.mem_model.specs.LawfulState.{IsLawfulState};
 ghost use Rattle.mem_model.specs.MeasuredTree.{MeasuredTree, IsOpened, peak_at};
 ghost use Rattle.mem_model.specs.PeakSample.{peak_of};
-ghost use Rattle.mem_model.specs.TreeState.{TreeState, opened, charges_in};
+ghost use Rattle.mem_model.specs.TreeState.{TreeState, opened, charges_in, held_at};
 
 /// Every state that calls reach from an opening is lawful.
 pub fn states_that_calls_reach_are_lawful()
@@ -23,6 +24,12 @@ pub fn peaks_are_the_greatest_of_the_samples()
     ensures peaks { (limit : ℕ) (calls : List TreeCall) (first last : MeasuredTree) →
         IsOpened limit first → LeadTo first calls last →
         (n : ℕ) → peak_at last n ≡ peak_of (samples_of (opened limit) calls) n }
+{}
+
+/// In such a state no allocator holds more than its peak.
+pub fn what_is_held_is_within_the_peak()
+    ensures { (limit : ℕ) (calls : List TreeCall) → limit < 2 ^ 63 → AreBoundedCalls calls →
+        (n : ℕ) → held_at (state_after (opened limit) calls) n ≤ peak_of (samples_of (opened limit) calls) n }
 {}
 
 /// In such a state each live chunk is charged to exactly one allocator, which is open and refers to it, as an
@@ -42,6 +49,12 @@ pub fn allocators_are_charged_the_live_chunks()
     ensures { (state : TreeState) → IsLawfulState state →
         sum_by (λ (node : TreeNode). charged_at (charges_in state) node.number.0) state.nodes
         ≡ sum_by (λ (chunk : Chunk). chunk.size) state.chunks }
+{}
+
+/// A call draws at most one chunk number and one allocator number, and adds at most one reference to any chunk.
+pub fn a_call_draws_at_most_one_number()
+    ensures call { (state : TreeState) (call : TreeCall) → DrawsNumbers state (after_call state call) 1 }
+    ensures calls { (state : TreeState) (calls : List TreeCall) → DrawsNumbers state (state_after state calls) (length calls) }
 {}
 
 /// The references that were there before and those that calls gave are those that are there after and those that were given

@@ -7,6 +7,7 @@ mod bound;
 mod calls;
 mod charge;
 mod chunk;
+mod chunk_laws;
 mod headroom;
 mod held;
 mod laws;
@@ -25,15 +26,18 @@ mod worked_examples;
 pub use balance::{
     a_fall_passes_on_what_was_beyond_the_reservation,
     a_rise_passes_on_what_is_beyond_the_reservation, numbers_that_balance_are_held,
+    what_is_held_balances, what_is_passed_up_is_beyond_the_reservation,
 };
 pub use bound::fits;
 pub use calls::{
-    allocators_are_charged_the_live_chunks, calls_that_give_all_back_leave_an_empty_tree,
-    each_live_chunk_is_charged_to_one_allocator, peaks_are_the_greatest_of_the_samples,
-    references_balance, states_that_calls_reach_are_lawful,
+    a_call_draws_at_most_one_number, allocators_are_charged_the_live_chunks,
+    calls_that_give_all_back_leave_an_empty_tree, each_live_chunk_is_charged_to_one_allocator,
+    peaks_are_the_greatest_of_the_samples, references_balance, states_that_calls_reach_are_lawful,
+    what_is_held_is_within_the_peak,
 };
 pub use charge::{Charge, charged_at};
 pub use chunk::{Chunk, charges_of};
+pub use chunk_laws::the_next_owner_is_the_least;
 pub use headroom::{
     a_parent_leaves_its_headroom_and_the_unused_reservation,
     a_request_within_the_headroom_is_not_refused, an_allocator_is_over_a_limit_where_its_parent_is,
