@@ -2,7 +2,6 @@
 use Rattle.std.specs.Prelude.{ℕ, ◌+◌, ◌==◌, not, nat_lt, [], ◌∷◌, ◌++◌, if◌then◌else◌, Option, Some, None, Result, Ok, Err}
 use Rattle.mem_num.specs.Rounded.{rounded_size}
 use Rattle.mem_num.specs.declared.rounding.TheConstants.{LARGEST}
-use Rattle.mem_num.specs.declared.rounding.Rounding.TheVariants.{Power}
 use Rattle.mem_num.specs.declared.alloc_id.AllocId.{AllocId}
 use Rattle.mem_num.specs.declared.buffer_ref.Ref.{Ref}
 use Rattle.mem_num.specs.declared.buffer_refused.BufferRefused.{BufferRefused}
@@ -12,7 +11,7 @@ use Rattle.mem_model.specs.Chunk.{new_chunk}
 use Rattle.mem_model.specs.declared.tree_node.TreeNode.{TreeNode}
 use Rattle.mem_model.specs.Request.{refusing_level, refusal_of}
 use Rattle.mem_model.specs.PeakSample.{request_sample}
-use Rattle.mem_model.specs.TreeState.{TreeState, CallResult, unchanged, charges_in, is_open, closed_at}
+use Rattle.mem_model.specs.TreeState.{TreeState, CallResult, rounding_at, unchanged, charges_in, is_open, closed_at}
 
 -- what a charge is answered, by the level that refuses it
 abbrev pub charge_answer : TreeState → Charge → Option TreeNode → Result Ref BufferRefused
@@ -33,7 +32,7 @@ charge_result state request =
 -- a request for a buffer, by the first cause that stands
 unfoldable pub grant_result : TreeState → AllocId → ℕ → CallResult (Result Ref BufferRefused)
 grant_result state at request =
-    let size = rounded_size Power request in
+    let size = rounded_size (rounding_at state at.0) request in
     if nat_lt LARGEST size then unchanged state (Err (TooLarge (record { request = request })))
     else if not (is_open state at.0) then unchanged state (Err (Closed (closed_at at)))
     else if size == 0 then unchanged state (Ok (record { chunk = 0; alloc = at; size = 0 }))

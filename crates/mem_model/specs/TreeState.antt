@@ -3,6 +3,8 @@ use Rattle.std.specs.Prelude.{ℕ, ◌+◌, ◌==◌, Bool, false, not, ◌&&◌
 use Rattle.std.specs.List.{list_any}
 use Rattle.mem_num.specs.declared.alloc_id.AllocId.{AllocId}
 use Rattle.mem_num.specs.declared.closed.Closed.{Closed}
+use Rattle.mem_num.specs.declared.rounding.Rounding.{Rounding}
+use Rattle.mem_num.specs.declared.rounding.Rounding.TheVariants.{Power}
 use Rattle.mem_model.specs.declared.tree_node.TreeNode.{TreeNode}
 use Rattle.mem_model.specs.declared.charge.Charge.{Charge}
 use Rattle.mem_model.specs.Chunk.{Chunk, charges_of, has_ledger}
@@ -17,6 +19,10 @@ pub record TreeState : Type 0 where
   pub next : ℕ
   -- how many chunk numbers were given; the next one is one more
   pub drawn : ℕ
+
+-- how the allocator n rounds what it is asked for: each allocator to powers of two
+abbrev pub rounding_at : TreeState → ℕ → Rounding
+rounding_at state n = Power
 
 -- what a call answers, the tree that it leaves, and the moments at which it measured peaks
 pub record CallResult (A : Type 0) : Type 0 where
