@@ -1,9 +1,16 @@
 -- Sums of charges.
-use Rattle.std.proofs.Common.{◌≡◌, ℕ, ◌+◌, ◌<◌, ◌≤◌, List, length, get_or, drop, Bool, cond, eqb, sym, ap, ◌∙◌}
+use Rattle.std.proofs.Common.{◌≡◌, ℕ, ◌+◌, ◌<◌, ◌≤◌, List, length, get_or, drop, Bool, cond, eqb, sym, ap, ◌∙◌, arith}
 use Rattle.std.proofs.lemmas.List.{drop_all}
-use Rattle.std.proofs.lemmas.List.Sums.{sum_by-drop_more}
+use Rattle.std.proofs.lemmas.Bool.{cond_both}
+use Rattle.std.proofs.lemmas.List.Sums.{sum_by-drop_more, sum_by-le-sum_by}
+use Rattle.std.specs.List.{sum_by}
 use Rattle.mem_model.specs.declared.charge.Charge.{Charge}
 use Rattle.mem_model.specs.Charge.{amount_at, charged_at}
+
+-- one allocator is charged no more than all charges
+pub charged_at-le-amounts : (charges : List Charge) (n : ℕ) → charged_at charges n ≤ sum_by (λ charge. charge.amount) charges
+charged_at-le-amounts charges n =
+    sum_by-le-sum_by (amount_at n) (λ charge. charge.amount) charges (λ charge. cond_both (eqb charge.at.0 n) charge.amount 0 (λ amount. amount ≤ charge.amount) (λ _. omega arith) (λ _. omega arith))
 
 -- past the last charge nothing is charged
 pub charged_at-drop_all : (charges : List Charge) (i n : ℕ) → length charges ≤ i → charged_at (drop i charges) n ≡ 0
