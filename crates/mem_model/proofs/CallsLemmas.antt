@@ -6,7 +6,7 @@ use Rattle.std.proofs.lemmas.List.{append-nil, get_or_default}
 use Rattle.std.proofs.lemmas.List.Elements.{All-head, All-tail}
 use Rattle.std.proofs.lemmas.List.Folds.{list_any-from_Any}
 use Rattle.std.proofs.lemmas.List.Sums.{sum_by-cons}
-use Rattle.mem_model.specs.Calls.{TreeCall, Child, Close, Grant, Retain, Transfer, Release, after_call, state_after, IsBoundedCall, AreBoundedCalls, references_given, references_returned, references_in, IsChargedOnce, HasRootAlone, IsEmptyTree}
+use Rattle.mem_model.specs.Calls.{TreeCall, Child, Close, Grant, Retain, Transfer, Release, after_call, state_after, IsBoundedCall, AreBoundedCalls, references_given, references_returned, references_in, HasOpenOwner, HasRootAlone, IsEmptyTree}
 use Rattle.mem_model.specs.Charge.{charged_at}
 use Rattle.mem_model.specs.Chunk.{Chunk, charges_of, has_ledger}
 use Rattle.mem_model.specs.Ledgers.{total_of}
@@ -15,7 +15,6 @@ use Rattle.mem_model.specs.LawfulState.{IsLawfulState}
 use Rattle.mem_model.specs.TreeNode.{is_number, is_open_child}
 use Rattle.mem_model.specs.TreeState.{TreeState, opened, charges_in, is_open, held_at, ledgers_of, children_of}
 use Rattle.mem_model.specs.Held.{held_of}
-use Rattle.mem_model.proofs.ChargeSumLemmas.{charged_once}
 use Rattle.mem_model.proofs.HeldLemmas.{HasNoChild, held_of-append}
 use Rattle.mem_model.proofs.LawfulCallLemmas.{lawful-grant, lawful-child, lawful-close_call}
 use Rattle.mem_model.proofs.LawfulReferenceLemmas.{lawful-retain_call, lawful-transfer_call, lawful-release_call}
@@ -23,6 +22,7 @@ use Rattle.mem_model.proofs.LawfulLemmas.{opened_lawful}
 use Rattle.mem_model.proofs.LedgerCountLemmas.{count_of-le-total_of}
 use Rattle.mem_model.proofs.OpenLemmas.{is_open_at, open_from, count_none}
 use Rattle.mem_model.proofs.CallBalanceLemmas.{references-call}
+use Rattle.mem_model.proofs.ReferenceLemmas.{owner_open}
 
 -- a call within bounds keeps the law
 pub lawful-after_call : (state : TreeState) (call : TreeCall) → IsLawfulState state → IsBoundedCall call → IsLawfulState (after_call state call)
@@ -43,11 +43,12 @@ lawful-state_after state (call ∷ calls) h bounded =
 pub lawful-reached : (limit : ℕ) (calls : List TreeCall) → limit < 2 ^ 63 → AreBoundedCalls calls → IsLawfulState (state_after (opened limit) calls)
 lawful-reached limit calls limited bounded = lawful-state_after (opened limit) calls (opened_lawful limit limited) bounded
 
--- there each chunk is charged once
-pub charged_once-reached : (limit : ℕ) (calls : List TreeCall) → limit < 2 ^ 63 → AreBoundedCalls calls → All (IsChargedOnce (state_after (opened limit) calls)) (state_after (opened limit) calls).chunks
-charged_once-reached limit calls limited bounded k d within =
+-- there each chunk has an open owner
+pub owned-reached : (limit : ℕ) (calls : List TreeCall) → limit < 2 ^ 63 → AreBoundedCalls calls → All (HasOpenOwner (state_after (opened limit) calls)) (state_after (opened limit) calls).chunks
+owned-reached limit calls limited bounded k d within =
     let state = state_after (opened limit) calls in
-    charged_once state (get_or state.chunks k d) ((lawful-reached limit calls limited bounded).chunks k d within)
+    let lawful = (lawful-reached limit calls limited bounded).chunks k d within in
+    record { open_ = owner_open state (get_or state.chunks k d) lawful; refers = lawful.owner }
 
 -- and numbers differ
 pub numbers-reached : (limit : ℕ) (calls : List TreeCall) → limit < 2 ^ 63 → AreBoundedCalls calls → AllPairs (λ (one other : Chunk). one.number ≢ other.number) (state_after (opened limit) calls).chunks

@@ -6,12 +6,10 @@ use Rattle.std.proofs.lemmas.List.Elements.{All-head, All-tail}
 use Rattle.std.proofs.lemmas.List.Sums.{sum_by-cons}
 use Rattle.mem_model.specs.declared.charge.Charge.{Charge}
 use Rattle.mem_model.specs.declared.tree_node.TreeNode.{TreeNode}
-use Rattle.mem_model.specs.Calls.{IsChargedOnce}
 use Rattle.mem_model.specs.Charge.{amount_at, charged_at}
 use Rattle.mem_model.specs.Chunk.{Chunk, charge_of, charges_of}
-use Rattle.mem_model.specs.LawfulChunk.{IsLawfulChunk}
 use Rattle.mem_model.specs.LawfulState.{IsLawfulState}
-use Rattle.mem_model.specs.TreeState.{TreeState, charges_in, is_open}
+use Rattle.mem_model.specs.TreeState.{TreeState, charges_in}
 use Rattle.mem_model.proofs.HeldLemmas.{Rises}
 use Rattle.mem_model.proofs.OpenLemmas.{is_open_at, pairs_head, pairs_tail}
 use Rattle.mem_model.proofs.ReferenceLemmas.{owner_open}
@@ -75,11 +73,10 @@ charged_sum nodes (chunk ∷ chunks) rises open_ =
 pub charged_sum-lawful : (state : TreeState) → IsLawfulState state → sum_by (λ (node : TreeNode). charged_at (charges_in state) node.number.0) state.nodes ≡ sum_by (λ (chunk : Chunk). chunk.size) state.chunks
 charged_sum-lawful state h = charged_sum state.nodes state.chunks h.tree.ordered (λ k d within. owner_open state _ (h.chunks k d within))
 
--- a lawful chunk is charged to its owner, once
-pub charged_once : (state : TreeState) (chunk : Chunk) → IsLawfulChunk (is_open state) chunk → IsChargedOnce state chunk
-charged_once state chunk h = record {
-  open_ = owner_open state chunk h;
-  refers = h.owner;
-  charged = sum_by-cons (amount_at chunk.owner.0) (charge_of chunk) [] ∙ omega (arith, amount_at-own (charge_of chunk) chunk.owner.0 refl);
-  others = λ n other. sum_by-cons (amount_at n) (charge_of chunk) [] ∙ omega (arith, amount_at-other (charge_of chunk) n other);
-}
+-- a chunk is charged to its owner, whole
+pub charged-owner : (chunk : Chunk) → charged_at (charges_of (chunk ∷ [])) chunk.owner.0 ≡ chunk.size
+charged-owner chunk = sum_by-cons (amount_at chunk.owner.0) (charge_of chunk) [] ∙ omega (arith, amount_at-own (charge_of chunk) chunk.owner.0 refl)
+
+-- and to nobody else
+pub charged-others : (chunk : Chunk) (n : ℕ) → n ≢ chunk.owner.0 → charged_at (charges_of (chunk ∷ [])) n ≡ 0
+charged-others chunk n other = sum_by-cons (amount_at n) (charge_of chunk) [] ∙ omega (arith, amount_at-other (charge_of chunk) n other)

@@ -125,16 +125,10 @@ references_returned state calls = sum_over returned_by state calls
 abbrev pub references_in : TreeState → ℕ
 references_in state = sum_by (λ chunk. total_of chunk.ledgers) state.chunks
 
--- what the allocator n is charged for a chunk
-abbrev pub charged_for : Chunk → ℕ → ℕ
-charged_for chunk n = charged_at (charges_of (chunk ∷ [])) n
-
--- a chunk is charged to one allocator, its owner, which is open and refers to it; to every other it is charged nothing
-pub record IsChargedOnce (state : TreeState) (chunk : Chunk) : Type 0 where
+-- the owner of a chunk is open, and refers to it
+pub record HasOpenOwner (state : TreeState) (chunk : Chunk) : Type 0 where
   pub open_ : is_open state chunk.owner.0 ≡ true
   pub refers : 1 ≤ count_of chunk.ledgers chunk.owner.0
-  pub charged : charged_for chunk chunk.owner.0 ≡ chunk.size
-  pub others : (n : ℕ) → n ≢ chunk.owner.0 → charged_for chunk n ≡ 0
 
 -- no allocator is open but the root
 abbrev pub HasRootAlone : TreeState → Type 0

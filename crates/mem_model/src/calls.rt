@@ -1,7 +1,7 @@
 //! The laws of lists of calls on a tree. Each function does nothing: its contract is a law, which the check proves.
 ghost use Rattle.std.specs.Prelude.{◌≡◌, ◌≢◌, ℕ, ◌+◌, ◌<◌, ◌≤◌, ◌^◌, List, length, All, AllPairs, sum_by};
 ghost use Rattle.mem_model.specs.declared.tree_node.TreeNode.{TreeNode};
-ghost use Rattle.mem_model.specs.Calls.{TreeCall, after_call, state_after, samples_of, LeadTo, AreBoundedCalls, given_by, returned_by, references_given, references_returned, references_in, IsChargedOnce, HasRootAlone, IsEmptyTree};
+ghost use Rattle.mem_model.specs.Calls.{TreeCall, after_call, state_after, samples_of, LeadTo, AreBoundedCalls, given_by, returned_by, references_given, references_returned, references_in, HasOpenOwner, HasRootAlone, IsEmptyTree};
 ghost use Rattle.mem_model.specs.Charge.{charged_at};
 ghost use Rattle.mem_model.specs.Chunk.{Chunk};
 ghost use Rattle.mem_model.specs.DrawnNumbers.{DrawsNumbers};
@@ -32,12 +32,12 @@ pub fn what_is_held_is_within_the_peak()
         (n : ℕ) → held_at (state_after (opened limit) calls) n ≤ peak_of (samples_of (opened limit) calls) n }
 {}
 
-/// In such a state each live chunk is charged to exactly one allocator, which is open and refers to it, as an
+/// In such a state the owner of each live chunk, which alone is charged for it, is open and refers to it, as an
 /// `AllocationManager` of Arrow Java has one owning ledger; and no two live chunks have the same number.
 pub fn each_live_chunk_is_charged_to_one_allocator()
-    ensures charged { (limit : ℕ) (calls : List TreeCall) → limit < 2 ^ 63 → AreBoundedCalls calls →
+    ensures owned { (limit : ℕ) (calls : List TreeCall) → limit < 2 ^ 63 → AreBoundedCalls calls →
         let state = state_after (opened limit) calls in
-        All (IsChargedOnce state) state.chunks }
+        All (HasOpenOwner state) state.chunks }
     ensures numbered { (limit : ℕ) (calls : List TreeCall) → limit < 2 ^ 63 → AreBoundedCalls calls →
         let state = state_after (opened limit) calls in
         AllPairs (λ (one other : Chunk). one.number ≢ other.number) state.chunks }

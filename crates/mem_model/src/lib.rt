@@ -37,7 +37,7 @@ pub use calls::{
 };
 pub use charge::{Charge, charged_at};
 pub use chunk::{Chunk, charges_of};
-pub use chunk_laws::the_next_owner_is_the_least;
+pub use chunk_laws::{a_chunk_is_charged_to_its_owner, the_next_owner_is_the_least};
 pub use headroom::{
     a_parent_leaves_its_headroom_and_the_unused_reservation,
     a_request_within_the_headroom_is_not_refused, an_allocator_is_over_a_limit_where_its_parent_is,
