@@ -1,9 +1,9 @@
 -- What an allocator holds is within the peak of the samples, after any list of calls.
-use Rattle.std.proofs.Common.{◌≡◌, ◌≢◌, ℕ, cond, ◌+◌, ◌<◌, ◌≤◌, ◌^◌, ◌==◌, max, List, [], ◌∷◌, ◌++◌, get_or, map, Bool, true, false, not, ◌&&◌, nat_le, nat_lt, refl, sym, ap, subst, ◌∙◌, arith, append_assoc, inl, inr, All, Option, Some, None, Result, Ok, Err, sum_by}
-use Rattle.std.specs.List.{list_any, Any, Contains, find}
+use Rattle.std.proofs.Common.{◌≡◌, ◌≢◌, ℕ, cond, ◌+◌, ◌<◌, ◌≤◌, ◌^◌, ◌==◌, List, [], ◌∷◌, ◌++◌, get_or, true, false, not, ◌&&◌, nat_le, nat_lt, refl, sym, ap, subst, ◌∙◌, arith, append_assoc, inl, inr, All, Option, Some, None, Err, sum_by}
+use Rattle.std.specs.List.{list_any, Any}
 use Rattle.std.specs.Option.{option_map_or}
 use Rattle.std.proofs.Math.Bool.{and-false}
-use Rattle.std.proofs.lemmas.Bool.{cases_Bool, cond_both, eqb-true, eqb-false, ne_eqb, eq-eqb, both_ways, not-false}
+use Rattle.std.proofs.lemmas.Bool.{cases_Bool, cond_both, eqb-true, eq-eqb, both_ways, not-false}
 use Rattle.std.proofs.lemmas.List.{append-nil, map-append}
 use Rattle.std.proofs.lemmas.List.Elements.{All-head, All-tail}
 use Rattle.std.proofs.lemmas.List.Folds.{Any-from_list_any, list_any-from_Any}
@@ -18,16 +18,16 @@ use Rattle.mem_model.specs.declared.charge.Charge.{Charge}
 use Rattle.mem_model.specs.declared.tree_node.TreeNode.{TreeNode}
 use Rattle.mem_model.specs.Calls.{TreeCall, Child, Close, Grant, Retain, Transfer, Release, call_result, after_call, state_after, samples_of, IsBoundedCall, AreBoundedCalls}
 use Rattle.mem_model.specs.Charge.{amount_at, charged_at}
-use Rattle.mem_model.specs.Child.{most_nodes, child_node, child_answer, after_child, child_result}
+use Rattle.mem_model.specs.Child.{most_nodes, child_node, after_child, child_result}
 use Rattle.mem_model.specs.Chunk.{Chunk, charge_of, charges_of, has_ledger, new_chunk, retained, released, with_chunk}
-use Rattle.mem_model.specs.Close.{closed_where, with_closed, close_result}
+use Rattle.mem_model.specs.Close.{with_closed, close_result}
 use Rattle.mem_model.specs.Force.{force_sample}
-use Rattle.mem_model.specs.Grant.{after_charge, charge_answer, grant_result}
+use Rattle.mem_model.specs.Grant.{after_charge, grant_result}
 use Rattle.mem_model.specs.Held.{held_of}
 use Rattle.mem_model.specs.LawfulState.{IsWithinBounds, IsLawfulState}
 use Rattle.mem_model.specs.PeakSample.{PeakSample, is_counted, held_in, peak_of, request_sample}
 use Rattle.mem_model.specs.References.{referred_chunk, released_at}
-use Rattle.mem_model.specs.Release.{without_chunk, after_release, release_samples, release_from, release_result}
+use Rattle.mem_model.specs.Release.{without_chunk, release_samples, release_from, release_result}
 use Rattle.mem_model.specs.Request.{is_level, levels_of, refusing_level}
 use Rattle.mem_model.specs.Reservation.{counted_at_parent}
 use Rattle.mem_model.specs.Retain.{retain_from, retain_result}

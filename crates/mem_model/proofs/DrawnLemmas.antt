@@ -4,7 +4,6 @@ use Rattle.std.specs.Bool.{◌==◌, nat_lt, nat_le}
 use Rattle.std.specs.Option.{option_map_or}
 use Rattle.std.proofs.lemmas.Bool.{cond_both}
 use Rattle.std.proofs.lemmas.List.Elements.{All-push, All-map, All-filter}
-use Rattle.mem_num.specs.declared.buffer_refused.BufferRefused.{BufferRefused}
 use Rattle.mem_num.specs.declared.buffer_refused.BufferRefused.TheVariants as buffer
 use Rattle.mem_num.specs.declared.child_refused.ChildRefused.{ChildRefused}
 use Rattle.mem_num.specs.declared.child_refused.ChildRefused.TheVariants.{ReserveAboveLimit, Closed, Nodes}
@@ -18,7 +17,7 @@ use Rattle.mem_num.specs.declared.alloc_id.AllocId.{AllocId}
 use Rattle.mem_num.specs.declared.buffer_ref.Ref.{Ref}
 use Rattle.mem_model.specs.declared.charge.Charge.{Charge}
 use Rattle.mem_model.specs.declared.tree_node.TreeNode.{TreeNode}
-use Rattle.mem_model.specs.Calls.{TreeCall, Child, Close, Grant, Retain, Transfer, Release, call_result, after_call, state_after}
+use Rattle.mem_model.specs.Calls.{TreeCall, Child, Close, Grant, Retain, Transfer, Release, after_call, state_after}
 use Rattle.mem_model.specs.Chunk.{Chunk, has_ledger, in_place_of, new_chunk, released, retained, with_chunk}
 use Rattle.mem_model.specs.Ledgers.{count_of, total_of}
 use Rattle.mem_model.specs.References.{referred_chunk, released_at}

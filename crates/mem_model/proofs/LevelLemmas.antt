@@ -1,8 +1,8 @@
 -- The levels of a request stand on the path from its allocator to the root.
-use Rattle.std.proofs.Common.{◌≡◌, ℕ, zero, suc, ◌+◌, ◌-◌, ◌<◌, ◌≤◌, ◌==◌, List, [], ◌∷◌, ◌++◌, length, get_or, reverse, filter, find, Bool, true, false, not, ◌&&◌, ◌||◌, refl, sym, ap, subst, ◌∙◌, arith, add-zero, inl, inr, All, AllPairs, Option, Some, None, sum_by}
+use Rattle.std.proofs.Common.{◌≡◌, ℕ, zero, suc, ◌+◌, ◌-◌, ◌<◌, ◌≤◌, ◌==◌, List, [], ◌∷◌, ◌++◌, length, get_or, reverse, filter, find, Bool, true, false, not, refl, sym, ap, subst, ◌∙◌, arith, inl, inr, All, AllPairs, Option, Some, None}
 use Rattle.std.specs.List.{list_any, Any, Contains}
 use Rattle.std.specs.Option.{ForSome}
-use Rattle.std.proofs.lemmas.Bool.{cases_Bool, cond-true, cond-false, eq-eqb, ne_eqb, eqb-true, both_ways, false_from_ne_true, and_parts, not-true}
+use Rattle.std.proofs.lemmas.Bool.{cases_Bool, cond-true, cond-false, eq-eqb, ne_eqb, eqb-true, both_ways, false_from_ne_true, and_parts}
 use Rattle.std.proofs.Math.Bool.{or-false}
 use Rattle.std.proofs.lemmas.List.{append-nil, length-reverse, get_or-reverse, reverse-append, reverse-reverse, get_or_default}
 use Rattle.std.proofs.lemmas.List.Elements.{All-head, All-tail, filter-append}
@@ -19,10 +19,10 @@ use Rattle.mem_model.specs.TreeNode.{is_number, is_open_child, IsAllocatorTree}
 use Rattle.mem_model.proofs.BalanceLemmas.{same_node}
 use Rattle.mem_model.proofs.BoundLemmas.{held_of_monotone}
 use Rattle.mem_model.proofs.ChargeSumLemmas.{amount_at-own, amount_at-other}
-use Rattle.mem_model.proofs.HeadroomLemmas.{HasOlderParent, older_parent, path_of-none, path_of-node, path_of-root, path_of-child, reversed}
+use Rattle.mem_model.proofs.HeadroomLemmas.{HasOlderParent, older_parent, path_of-node, path_of-root, path_of-child, reversed}
 use Rattle.mem_model.proofs.HeldLemmas.{Rises}
 use Rattle.mem_model.proofs.LawfulCloseLemmas.{numbered}
-use Rattle.mem_model.proofs.OpenLemmas.{pairs_head, pairs_tail, same_id}
+use Rattle.mem_model.proofs.OpenLemmas.{pairs_head, pairs_tail}
 use Rattle.mem_model.proofs.PathLemmas.{All-path_from}
 use Rattle.mem_model.proofs.RequestLemmas.{refuses, lowest_push, filter-filter}
 

@@ -7,8 +7,7 @@ use Rattle.mem_num.specs.declared.child_refused.ChildRefused.{ChildRefused}
 use Rattle.mem_num.specs.declared.not_closed.NotClosed.{NotClosed}
 use Rattle.mem_num.specs.declared.released.Released.{Released}
 use Rattle.mem_num.specs.declared.solo_refused.SoloRefused.{SoloRefused}
-use Rattle.mem_model.specs.Charge.{charged_at}
-use Rattle.mem_model.specs.Chunk.{Chunk, charges_of}
+use Rattle.mem_model.specs.Chunk.{Chunk}
 use Rattle.mem_model.specs.Ledgers.{count_of, total_of}
 use Rattle.mem_model.specs.MeasuredTree.{MeasuredTree, IsAfterCall}
 use Rattle.mem_model.specs.PeakSample.{PeakSample}

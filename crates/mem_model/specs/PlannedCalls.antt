@@ -4,7 +4,7 @@ use Rattle.std.specs.List.{slice_get}
 use Rattle.std.specs.Option.{option_map_or}
 use Rattle.mem_num.specs.declared.buffer_ref.Ref.{Ref}
 use Rattle.mem_model.specs.TreeState.{TreeState, CallResult}
-use Rattle.mem_model.specs.Calls.{CallBy, TreeCall, Child, Close, Grant, Retain, Transfer, Release, CallAnswer, ToGrant, ToRetain, ToTransfer, call_result, after_call}
+use Rattle.mem_model.specs.Calls.{CallBy, TreeCall, Child, Close, Grant, Retain, Transfer, Release, CallAnswer, ToGrant, ToRetain, ToTransfer, call_result}
 
 -- a call that names a reference by the place of the earlier call that gives it, where the first call stands at 0
 abbrev pub PlannedCall : Type 0

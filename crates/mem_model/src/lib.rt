@@ -1,5 +1,5 @@
 //! What the numbers of the accounts mean: allocators, charges, held bytes, requests, peaks and the state of a tree, each as a
-//! definition in `specs/`, and beside it a plain, slow program whose contract is the definition.
+//! definition in `specs/`, and beside most a plain, slow program whose contract is the definition.
 #![tactic(auto)]
 
 mod balance;
