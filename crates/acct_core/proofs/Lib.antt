@@ -13,6 +13,7 @@ pub mod HeadLemmas
 pub mod BoundLemmas
 pub mod WeightLemmas
 pub mod RestLemmas
+pub mod NodeTreeLemmas
 pub mod ConsequenceLemmas
 pub mod StateLemmas
 pub mod TakeLemmas

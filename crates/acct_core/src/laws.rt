@@ -1,8 +1,10 @@
 //! The laws of the accounts. Each function does nothing: its contract is a law, which the check proves, so that what is said here is
 //! a theorem about the event table and not about this machine alone.
 ghost use Rattle.std.specs.Prelude.{◌≡◌, ℕ, ◌+◌, ◌<◌, ◌≤◌, ◌^◌, Bool, true, false, List, ◌∷◌, ◌++◌, length, sum_by, All, Some, None};
+ghost use Rattle.std.specs.List.{slice_get};
 ghost use Rattle.std.specs.List.Sorted.{IsPermutation};
 ghost use Rattle.mem_model.specs.Held.{held_of};
+ghost use Rattle.mem_model.specs.TreeNode.{IsAllocatorTree};
 ghost use Rattle.mem_model.specs.WorstCase.{worst_case};
 ghost use Rattle.acct_core.specs.declared.account.Account.{Account};
 ghost use Rattle.acct_core.specs.declared.claim.Claim.{Claim};
@@ -12,7 +14,7 @@ ghost use Rattle.acct_core.specs.declared.phase.Phase.TheVariants.{Free, Held, F
 ghost use Rattle.acct_core.specs.declared.row.Row.{Row};
 ghost use Rattle.acct_core.specs.declared.told.Told.{Told};
 ghost use Rattle.acct_core.specs.Applies.{Applies, AppliesToClaim};
-ghost use Rattle.acct_core.specs.AtRest.{IsAtRest, charges_of, tree_nodes};
+ghost use Rattle.acct_core.specs.AtRest.{IsAtRest, charges_of, tree_node, tree_nodes};
 ghost use Rattle.acct_core.specs.Bounds.{reservations_of, sizes_of};
 ghost use Rattle.acct_core.specs.Claims.{account, claim, claim_at};
 ghost use Rattle.acct_core.specs.Effects.{Effect, effect_of};
@@ -70,6 +72,15 @@ pub fn unused_node_holds_nothing()
 pub fn held_is_within_the_worst_case()
     ensures { (a : Account) → IsLawfulAccount a → (n : ℕ) →
         (row a.rows n).held ≤ worst_case (sizes_of a.claims) (reservations_of a.rows) }
+{}
+
+/// The allocators that were made are a tree, whatever calls are in flight. Where there is any, the first is the root, which is
+/// open or closed as the account has it.
+#[tactic(auto, using(crate::proofs::NodeTreeLemmas::account_tree, crate::proofs::NodeTreeLemmas::account_root))]
+pub fn made_nodes_are_an_allocator_tree()
+    ensures tree { (a : Account) → IsLawfulAccount a → IsAllocatorTree (tree_nodes 0 a.rows) }
+    ensures root { (a : Account) → IsLawfulAccount a → (n : ℕ) → (shapes a.rows n).made ≡ true →
+        slice_get (tree_nodes 0 a.rows) 0 ≡ Some (tree_node 0 (row a.rows 0)) }
 {}
 
 /// At rest the rows by number and the list of allocators that were made tell the same held numbers.

@@ -30,8 +30,9 @@ pub use laws::{
     each_event_keeps_a_fixed_tree, each_event_keeps_the_law, each_run_keeps_the_law,
     each_step_keeps_the_law, effects_are_those_in_phase, failed_request_went_past_a_limit,
     free_claims_do_not_matter, held_at_rest_is_held_of, held_covers_pending_subtractions,
-    held_is_within_the_worst_case, held_request_went_past_no_limit, numbers_stay_small,
-    order_of_claims_does_not_matter, unused_node_holds_nothing,
+    held_is_within_the_worst_case, held_request_went_past_no_limit,
+    made_nodes_are_an_allocator_tree, numbers_stay_small, order_of_claims_does_not_matter,
+    unused_node_holds_nothing,
 };
 pub use level_step::LevelStep;
 pub use machine::Core;
