@@ -23,11 +23,11 @@ pub mod ReferenceSumLemmas
 pub mod CallBalanceLemmas
 pub mod CallsLemmas
 pub mod RunLemmas
-pub mod PlannedLemmas
 pub mod DrawnLemmas
 pub mod PlainLemmas
 pub mod PlainCallLemmas
 pub mod PlainReferenceLemmas
+pub mod PlannedLemmas
 pub mod PathLemmas
 pub mod HeadroomLemmas
 pub mod LevelLemmas

@@ -1,21 +1,22 @@
 -- Planned calls run as the calls that they come to.
-use Rattle.std.proofs.Common.{◌≡◌, ◌≤◌, ◌==◌, List, [], ◌∷◌, ◌++◌, false, refl, sym, ap, ◌∙◌, arith, append_assoc, All, None, Err}
+use Rattle.std.proofs.Common.{◌≡◌, ℕ, zero, suc, length, ◌≤◌, ◌==◌, List, [], ◌∷◌, ◌++◌, false, refl, sym, ap, ◌∙◌, arith, append_assoc, All, None, Err}
 use Rattle.std.specs.List.{find}
-use Rattle.std.specs.Option.{option_map_or}
 use Rattle.std.proofs.lemmas.Bool.{ne_eqb}
 use Rattle.std.proofs.lemmas.List.{append-nil}
 use Rattle.std.proofs.lemmas.List.Elements.{All-head, All-tail}
 use Rattle.mem_num.specs.declared.alloc_id.AllocId.{AllocId}
+use Rattle.mem_num.specs.declared.buffer_ref.Ref.{Ref}
 use Rattle.mem_num.specs.declared.solo_refused.SoloRefused.TheVariants.{Released as RefusedRelease}
 use Rattle.mem_model.specs.Calls.{CallAnswer, state_after, answers_of, samples_of}
 use Rattle.mem_model.specs.Chunk.{Chunk}
 use Rattle.mem_model.specs.LawfulState.{IsLawfulState}
-use Rattle.mem_model.specs.PlannedCalls.{PlannedCall, no_reference, planned_result, run_behind, run_planned, calls_behind, calls_planned}
+use Rattle.mem_model.specs.PlannedCalls.{PlannedCall, no_reference, reference_at, planned_result, run_behind, run_planned, calls_behind, calls_planned}
 use Rattle.mem_model.specs.References.{refers_to, referred_chunk, released_at}
-use Rattle.mem_model.specs.Release.{release_from, release_result}
-use Rattle.mem_model.specs.Retain.{retain_from, retain_result}
-use Rattle.mem_model.specs.Transfer.{transfer_from, transfer_result}
+use Rattle.mem_model.specs.Release.{release_result}
+use Rattle.mem_model.specs.Retain.{retain_result}
+use Rattle.mem_model.specs.Transfer.{transfer_result}
 use Rattle.mem_model.specs.TreeState.{TreeState, CallResult, unchanged}
+use Rattle.mem_model.proofs.PlainReferenceLemmas.{retain-nothing, transfer-nothing, release-nothing}
 
 -- planned calls run as the calls that they come to
 run-behind : (state : TreeState) (answers : List CallAnswer) (plan : List PlannedCall) →
@@ -35,26 +36,28 @@ pub run-planned : (state : TreeState) (plan : List PlannedCall) →
 run-planned state plan = run-behind state [] plan
 
 -- no lawful chunk has the number 0
-find-none : (chunks : List Chunk) → All (λ chunk. 1 ≤ chunk.number) chunks → find (refers_to no_reference) chunks ≡ None
-find-none [] some = refl
-find-none (chunk ∷ chunks) some =
+find-none : (of : Ref) (chunks : List Chunk) → of.chunk ≡ 0 → All (λ chunk. 1 ≤ chunk.number) chunks → find (refers_to of) chunks ≡ None
+find-none of [] zero' some = refl
+find-none of (chunk ∷ chunks) zero' some =
     let first : 1 ≤ chunk.number = All-head (λ (c : Chunk). 1 ≤ c.number) chunk chunks some in
-    let other : (chunk.number == 0) ≡ false = ne_eqb chunk.number 0 (λ same. omega (arith, first, same)) in
-    rw other (find-none chunks (All-tail (λ (c : Chunk). 1 ≤ c.number) chunk chunks some))
+    let other : (chunk.number == of.chunk) ≡ false = ne_eqb chunk.number of.chunk (λ same. omega (arith, first, same, zero')) in
+    rw other (find-none of chunks zero' (All-tail (λ (c : Chunk). 1 ≤ c.number) chunk chunks some))
 
-none-referred : (state : TreeState) → IsLawfulState state → referred_chunk state no_reference ≡ None
-none-referred state h = find-none state.chunks (λ k d within. (h.chunks k d within).some)
+none-referred : (state : TreeState) (of : Ref) → IsLawfulState state → of.chunk ≡ 0 → referred_chunk state of ≡ None
+none-referred state of h zero' = find-none of state.chunks zero' (λ k d within. (h.chunks k d within).some)
 
--- so a call of no reference changes nothing
-pub retain-none : (state : TreeState) (target : AllocId) → IsLawfulState state → retain_result state no_reference target ≡ unchanged state (Err (RefusedRelease (released_at no_reference)))
-unfolding retain_result
-retain-none state target h = ap (λ found. option_map_or (retain_from state target) found (unchanged state (Err (RefusedRelease (released_at no_reference))))) (none-referred state h)
+-- so a call on a reference to no chunk changes nothing
+pub retain-none : (state : TreeState) (of : Ref) (target : AllocId) → IsLawfulState state → of.chunk ≡ 0 → retain_result state of target ≡ unchanged state (Err (RefusedRelease (released_at of)))
+retain-none state of target h zero' = retain-nothing state of target (none-referred state of h zero')
 
-pub transfer-none : (state : TreeState) (target : AllocId) → IsLawfulState state → transfer_result state no_reference target ≡ unchanged state (Err (RefusedRelease (released_at no_reference)))
-unfolding transfer_result
-transfer-none state target h =
-    ap (λ found. option_map_or (transfer_from state no_reference.alloc target) found (unchanged state (Err (RefusedRelease (released_at no_reference))))) (none-referred state h)
+pub transfer-none : (state : TreeState) (of : Ref) (target : AllocId) → IsLawfulState state → of.chunk ≡ 0 → transfer_result state of target ≡ unchanged state (Err (RefusedRelease (released_at of)))
+transfer-none state of target h zero' = transfer-nothing state of target (none-referred state of h zero')
 
-pub release-none : (state : TreeState) → IsLawfulState state → release_result state no_reference ≡ unchanged state (Err (released_at no_reference))
-unfolding release_result
-release-none state h = ap (λ found. option_map_or (release_from state no_reference) found (unchanged state (Err (released_at no_reference)))) (none-referred state h)
+pub release-none : (state : TreeState) (of : Ref) → IsLawfulState state → of.chunk ≡ 0 → release_result state of ≡ unchanged state (Err (released_at of))
+release-none state of h zero' = release-nothing state of (none-referred state of h zero')
+
+-- no call stands past the last
+pub past-the-last : (answers : List CallAnswer) (place : ℕ) → length answers ≤ place → reference_at answers place ≡ no_reference
+past-the-last [] place past = refl
+past-the-last (answer ∷ answers) zero past = absurd (omega (arith, past))
+past-the-last (answer ∷ answers) (suc place) past = past-the-last answers place (omega (arith, past))

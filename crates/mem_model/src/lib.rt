@@ -53,7 +53,7 @@ pub use path::levels_stand_on_the_path_to_the_root;
 pub use peak_sample::{PeakSample, peak_of};
 pub use plain_tree::PlainTree;
 pub use planned_calls::{
-    a_place_without_a_reference_changes_nothing, planned_calls_run_as_the_calls_that_they_come_to,
+    a_place_without_a_chunk_changes_nothing, planned_calls_run_as_the_calls_that_they_come_to,
 };
 pub use request::{is_past_limit, levels_of, refusal_of, refusing_level};
 pub use sample::{force_sample, request_sample};
