@@ -26,13 +26,13 @@ pub fn peaks_are_the_greatest_of_the_samples()
         (n : ℕ) → peak_at last n ≡ peak_of (samples_of (opened limit) calls) n }
 {}
 
-/// In such a state no allocator holds more than its peak.
+/// After calls from an opening no allocator holds more than its peak.
 pub fn what_is_held_is_within_the_peak()
     ensures { (limit : ℕ) (calls : List TreeCall) → limit < 2 ^ 63 → AreBoundedCalls calls →
         (n : ℕ) → held_at (state_after (opened limit) calls) n ≤ peak_of (samples_of (opened limit) calls) n }
 {}
 
-/// In such a state the owner of each live chunk, which alone is charged for it, is open and refers to it, as an
+/// After such calls the owner of each live chunk, which alone is charged for it, is open and refers to it, as an
 /// `AllocationManager` of Arrow Java has one owning ledger; and no two live chunks have the same number.
 pub fn each_live_chunk_is_charged_to_one_allocator()
     ensures owned { (limit : ℕ) (calls : List TreeCall) → limit < 2 ^ 63 → AreBoundedCalls calls →
