@@ -1,5 +1,5 @@
 //! The number of an allocator.
-ghost use Rattle.std.specs.Prelude.{Some};
+ghost use Rattle.std.specs.Prelude.{◌≡◌, ◌↔◌, IsTrue, Some};
 ghost use Rattle.mem_num.specs.Text.{alloc_id_text};
 
 use std::fmt;
@@ -11,6 +11,13 @@ pub struct AllocId(pub u32);
 impl AllocId {
     /// The root of every tree.
     pub const ROOT: AllocId = AllocId(0);
+
+    /// Whether it is the root.
+    pub fn is_root(self) -> bool
+        ensures { IsTrue result ↔ (self.0 ≡ 0) }
+    {
+        self == AllocId::ROOT
+    }
 }
 
 /// A number sign and the number, as `#3`.

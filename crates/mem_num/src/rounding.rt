@@ -1,7 +1,8 @@
 //! How many bytes a request is charged.
-ghost use Rattle.std.specs.Prelude.{◌≡◌, ◌≤◌, ◌↔◌, IsTrue, OkIff, IfErr};
+ghost use Rattle.std.specs.Prelude.{◌≡◌, ◌≤◌, ◌^◌, ◌↔◌, IsTrue, OkIff, IfOk, IfErr};
 ghost use Rattle.mem_num.specs.Rounded.{rounded_size, IsPolicy, IsRounded};
 
+use crate::bounds::LARGEST;
 use crate::too_large::TooLarge;
 
 /// A rounding policy, after Arrow Java's `RoundingPolicy`.
@@ -36,9 +37,6 @@ fn is_segment(size: u64) -> bool
     size.next_power_of_two() == size
 }
 
-/// The largest size of a buffer, in bytes.
-pub const LARGEST: u64 = 1_073_741_824;
-
 /// The least request, in bytes, that the powers of two leave as it is.
 const CHUNK: u64 = 16_777_216;
 
@@ -47,9 +45,9 @@ const CHUNK: u64 = 16_777_216;
 #[tactic(auto, using(crate::proofs::RoundedLemmas::rounded_rule, crate::proofs::RoundedLemmas::rounded_lower))]
 pub fn rounded(policy: Rounding, request: u64) -> Result<u64, TooLarge>
     requires { IsPolicy policy }
-    ensures size { OkIff result (rounded_size policy request ≤ LARGEST) (rounded_size policy request) }
+    ensures size { OkIff result (rounded_size policy request ≤ 2 ^ 30) (rounded_size policy request) }
     ensures refused { IfErr result (λ refused. refused.request ≡ request) }
-    ensures rule { IsRounded policy request (rounded_size policy request) }
+    ensures rule { IfOk result (IsRounded policy request) }
 {
     if request > LARGEST {
         return Err(TooLarge { request });
