@@ -8,7 +8,7 @@ use Rattle.mem_num.specs.declared.alloc_id.AllocId.{AllocId}
 use Rattle.mem_num.specs.declared.buffer_ref.Ref.{Ref}
 use Rattle.mem_num.specs.declared.solo_refused.SoloRefused.TheVariants.{Released as RefusedRelease}
 use Rattle.mem_num.specs.Rounded.{rounded_size}
-use Rattle.mem_num.specs.declared.rounding.TheConstants.{LARGEST}
+use Rattle.mem_num.specs.declared.bounds.TheConstants.{LARGEST}
 use Rattle.mem_num.specs.declared.rounding.Rounding.TheVariants.{Power}
 use Rattle.mem_num.specs.declared.buffer_refused.BufferRefused.{BufferRefused}
 use Rattle.mem_model.specs.declared.charge.Charge.{Charge}
@@ -29,7 +29,7 @@ use Rattle.mem_model.proofs.ReferenceLemmas.{referred_lawful}
 use Rattle.mem_model.proofs.ReferenceSumLemmas.{total_on, references-more, total-retained, references-less}
 
 -- a call leaves the chunks as they were
-abbrev KeepsChunks : {A : Type 0} → TreeState → CallResult A → Type 0
+abbrev pub KeepsChunks : {A : Type 0} → TreeState → CallResult A → Type 0
 KeepsChunks state result = result.state.chunks ≡ state.chunks
 
 -- the child that a call makes, if any, leaves them
@@ -38,7 +38,7 @@ chunks-after_child state child None = refl
 chunks-after_child state child (Some level) = refl
 
 -- so making a child does
-chunks-child : (state : TreeState) (parent : AllocId) (reservation limit : ℕ) → KeepsChunks state (child_result state parent reservation limit)
+pub chunks-child : (state : TreeState) (parent : AllocId) (reservation limit : ℕ) → KeepsChunks state (child_result state parent reservation limit)
 unfolding child_result
 chunks-child state parent reservation limit =
     cond_both (nat_lt limit reservation) _ _ (KeepsChunks state) (λ _. refl) (λ _.
@@ -47,7 +47,7 @@ chunks-child state parent reservation limit =
     chunks-after_child state (child_node state parent reservation limit) (refusing_level state.nodes (charges_in state) (record { at = parent; amount = reservation })))))
 
 -- and closing
-chunks-close : (state : TreeState) (at : AllocId) → KeepsChunks state (close_result state at)
+pub chunks-close : (state : TreeState) (at : AllocId) → KeepsChunks state (close_result state at)
 unfolding close_result
 chunks-close state at =
     cond_both (not (is_open state at.0)) _ _ (KeepsChunks state) (λ _. refl) (λ _.

@@ -11,7 +11,7 @@ use Rattle.mem_num.specs.declared.not_closed.NotClosed.{NotClosed}
 use Rattle.mem_num.specs.declared.not_closed.NotClosed.TheVariants.{InUse, Closed as NotClosedAgain}
 use Rattle.mem_num.specs.declared.solo_refused.SoloRefused.TheVariants.{Released as RefusedRelease, Closed as RefusedTarget}
 use Rattle.mem_num.specs.Rounded.{rounded_size}
-use Rattle.mem_num.specs.declared.rounding.TheConstants.{LARGEST}
+use Rattle.mem_num.specs.declared.bounds.TheConstants.{LARGEST}
 use Rattle.mem_num.specs.declared.rounding.Rounding.TheVariants.{Power}
 use Rattle.mem_num.specs.declared.alloc_id.AllocId.{AllocId}
 use Rattle.mem_num.specs.declared.buffer_ref.Ref.{Ref}

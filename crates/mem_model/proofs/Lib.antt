@@ -22,8 +22,10 @@ pub mod ChunkSumLemmas
 pub mod ReferenceSumLemmas
 pub mod CallBalanceLemmas
 pub mod CallsLemmas
+pub mod CountedLemmas
 pub mod RunLemmas
 pub mod DrawnLemmas
+pub mod SampleLemmas
 pub mod PlainLemmas
 pub mod PlainCallLemmas
 pub mod PlainReferenceLemmas

@@ -2,7 +2,7 @@
 use Rattle.std.proofs.Common.{◌≡◌, ℕ, ◌+◌, ◌<◌, ◌≤◌, true, false, not, nat_lt, nat_le, ◌==◌, [], sym, ap, ◌∙◌, arith, Ok, Err}
 use Rattle.std.proofs.lemmas.Bool.{cond-true, cond-false, lt-ltb, ltb-true, ltb-false, le-ltb, le-leb, lt-leb, eq-eqb, ne_eqb, not_from_true, not_from_false}
 use Rattle.mem_num.specs.Rounded.{rounded_size}
-use Rattle.mem_num.specs.declared.rounding.TheConstants.{LARGEST}
+use Rattle.mem_num.specs.declared.bounds.TheConstants.{LARGEST}
 use Rattle.mem_num.specs.declared.rounding.Rounding.TheVariants.{Power}
 use Rattle.mem_num.specs.declared.alloc_id.AllocId.{AllocId}
 use Rattle.mem_num.specs.declared.buffer_refused.BufferRefused.TheVariants.{TooLarge as RefusedSize, Closed}

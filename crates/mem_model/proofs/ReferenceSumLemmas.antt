@@ -41,7 +41,7 @@ next_owner-refers owner x xs counted = cond_both (nat_lt 0 (count_of (x ∷ xs) 
     (λ refers. ltb-true 0 (count_of (x ∷ xs) owner.0) refers) (λ _. ledger-counted (x ∷ xs) 0 x counted (omega arith))
 
 -- so a chunk to which its next owner doesn't refer has no reference
-total-unowned : (owner : AllocId) (xs : List Ledger) → All (λ ledger. 1 ≤ ledger.count) xs → nat_lt 0 (count_of xs (next_owner owner xs).0) ≡ false → total_of xs ≡ 0
+pub total-unowned : (owner : AllocId) (xs : List Ledger) → All (λ ledger. 1 ≤ ledger.count) xs → nat_lt 0 (count_of xs (next_owner owner xs).0) ≡ false → total_of xs ≡ 0
 total-unowned owner [] counted none = refl
 total-unowned owner (x ∷ xs) counted none =
     absurd (omega (arith, next_owner-refers owner x xs counted, ltb-false 0 (count_of (x ∷ xs) (next_owner owner (x ∷ xs)).0) none))

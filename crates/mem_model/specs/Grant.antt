@@ -1,7 +1,7 @@
 -- Asking for a buffer.
 use Rattle.std.specs.Prelude.{ℕ, ◌+◌, ◌==◌, not, nat_lt, [], ◌∷◌, ◌++◌, if◌then◌else◌, Option, Some, None, Result, Ok, Err}
 use Rattle.mem_num.specs.Rounded.{rounded_size}
-use Rattle.mem_num.specs.declared.rounding.TheConstants.{LARGEST}
+use Rattle.mem_num.specs.declared.bounds.TheConstants.{LARGEST}
 use Rattle.mem_num.specs.declared.alloc_id.AllocId.{AllocId}
 use Rattle.mem_num.specs.declared.buffer_ref.Ref.{Ref}
 use Rattle.mem_num.specs.declared.buffer_refused.BufferRefused.{BufferRefused}

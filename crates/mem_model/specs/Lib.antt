@@ -26,6 +26,7 @@ pub mod MeasuredTree
 pub mod LawfulState
 pub mod DrawnNumbers
 pub mod Calls
+pub mod CountedReferences
 pub mod PlannedCalls
 pub mod PlainTree
 pub mod PlainFields

@@ -8,10 +8,11 @@ use Rattle.mem_model.specs.declared.tree_node.TreeNode.{TreeNode}
 use Rattle.mem_model.specs.PeakSample.{PeakSample, held_in, is_counted}
 use Rattle.mem_model.specs.TreeState.{TreeState, CallResult, opened, held_at, uses_of}
 
--- a tree, and the peak of each allocator at the place of its number
+-- a tree, the peak of each allocator at the place of its number, and how many calls have drawn a number or added a reference
 pub record MeasuredTree : Type 0 where
   pub state : TreeState
   pub peaks : List ℕ
+  pub calls : ℕ
 
 -- the peak of the allocator n, 0 where none was measured
 abbrev pub peak_at : MeasuredTree → ℕ → ℕ
@@ -21,10 +22,11 @@ peak_at tree n = slice_index_or tree.peaks n 0
 abbrev pub raised_peaks : (ℕ → ℕ) → List PeakSample → ℕ → ℕ
 raised_peaks peaks samples n = fold max (peaks n) (map (held_in n) (filter (is_counted n) samples))
 
--- a tree with its root alone, on which nothing was measured
+-- a tree with its root alone, on which nothing was measured and no call was counted
 pub record IsOpened (limit : ℕ) (tree : MeasuredTree) : Type 0 where
   pub state : tree.state ≡ opened limit
   pub peaks : (n : ℕ) → peak_at tree n ≡ 0
+  pub calls : tree.calls ≡ 0
 
 -- the tree that a call leaves, with the peaks that its samples raise
 pub record IsAfterCall {A : Type 0} (old : MeasuredTree) (call : CallResult A) (new : MeasuredTree) : Type 0 where

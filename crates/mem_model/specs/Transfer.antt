@@ -40,6 +40,6 @@ transfer_from state source target chunk =
     else if moves_charge source target chunk then moved_result state target chunk
     else kept_result state target chunk
 
--- a reference that was given back is refused first; else the answer tells whether the charge is within all limits
+-- a reference that was given back is refused first; else the answer tells whether every level of the charge is within its limit
 unfoldable pub transfer_result : TreeState → Ref → AllocId → CallResult (Result (Ref × Bool) SoloRefused)
 transfer_result state of target = option_map_or (transfer_from state of.alloc target) (referred_chunk state of) (unchanged state (Err (Released (released_at of))))

@@ -1,10 +1,11 @@
 //! The laws of a tree's state. Each function does nothing: its contract is a law, which the check proves, so that what is said
 //! here is a theorem about the definitions and not about one program.
-ghost use Rattle.std.specs.Prelude.{◌≡◌, ℕ, ◌+◌, ◌*◌, ◌<◌, ◌≤◌, ◌^◌, List, ◌∷◌, ◌++◌, false};
+ghost use Rattle.std.specs.Prelude.{◌≡◌, ℕ, ◌+◌, ◌*◌, ◌<◌, ◌≤◌, ◌^◌, List, ◌∷◌, ◌++◌, length, false};
 ghost use Rattle.mem_num.specs.declared.alloc_id.AllocId.{AllocId};
 ghost use Rattle.mem_num.specs.declared.buffer_ref.Ref.{Ref};
 ghost use Rattle.mem_model.specs.declared.charge.Charge.{Charge};
 ghost use Rattle.mem_model.specs.Bound.{all_of};
+ghost use Rattle.mem_model.specs.Calls.{TreeCall, AreBoundedCalls, samples_of};
 ghost use Rattle.mem_model.specs.Child.{child_result};
 ghost use Rattle.mem_model.specs.Close.{close_result};
 ghost use Rattle.mem_model.specs.Grant.{grant_result};
@@ -47,6 +48,13 @@ pub fn numbers_stay_small()
     ensures held { (state : TreeState) (request : Charge) (n : ℕ) →
         IsLawfulState state → state.drawn < 2 ^ 32 → request.amount ≤ 2 ^ 40 →
         held_of state.nodes (request ∷ charges_in state) n < 2 ^ 63 }
+{}
+
+/// As long as fewer than 2^32 calls were made, no peak wraps either.
+pub fn peaks_stay_small()
+    ensures { (limit : ℕ) (calls : List TreeCall) (n : ℕ) → limit < 2 ^ 63 →
+        AreBoundedCalls calls → length calls < 2 ^ 32 →
+        peak_of (samples_of (opened limit) calls) n < 2 ^ 63 }
 {}
 
 /// An allocator that isn't open has no uses.

@@ -8,6 +8,7 @@ mod calls;
 mod charge;
 mod chunk;
 mod chunk_laws;
+mod counted;
 mod headroom;
 mod held;
 mod laws;
@@ -38,6 +39,7 @@ pub use calls::{
 pub use charge::{Charge, charged_at};
 pub use chunk::{Chunk, charges_of};
 pub use chunk_laws::{a_chunk_is_charged_to_its_owner, the_next_owner_is_the_least};
+pub use counted::{counted_reference_is_to_a_live_chunk, references_of_each_allocator_balance};
 pub use headroom::{
     a_parent_leaves_its_headroom_and_the_unused_reservation,
     a_request_within_the_headroom_is_not_refused, an_allocator_is_over_a_limit_where_its_parent_is,
@@ -45,7 +47,7 @@ pub use headroom::{
 pub use held::held_of;
 pub use laws::{
     closed_allocator_has_no_uses, each_call_keeps_the_law, numbers_stay_small,
-    opened_tree_is_lawful, samples_raise_peaks,
+    opened_tree_is_lawful, peaks_stay_small, samples_raise_peaks,
 };
 pub use ledger::Ledger;
 pub use ledgers::{count_of, total_of, with_count};

@@ -130,8 +130,8 @@ impl PlainTree {
         Ok(headroom_on(&self.nodes, &charges, &path))
     }
 
-    /// How many bytes an allocator could be given now, by its limit and by those above it; less than nothing where it is over
-    /// one. After `BaseAllocator.getHeadroom`.
+    /// How many bytes an allocator could be given now, by its limit and by those above it; less than nothing only where
+    /// it or one above it holds more than its own limit. After `BaseAllocator.getHeadroom`.
     #[tactic(auto, unfolding(crate::specs::Headroom::headroom_answer))]
     pub fn headroom(&self, alloc: Global, at: AllocId) -> Result<Result<i64, Closed>, AllocError>
         ensures answer { IfOk result (λ answer. answer ≡ spec.headroom_answer self.now.state at) }

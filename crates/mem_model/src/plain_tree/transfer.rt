@@ -12,8 +12,8 @@ use mem_num::{AllocId, Closed, Ref, Released, SoloRefused};
 use std::alloc::{AllocError, Global};
 
 impl PlainTree {
-    /// Adds a reference of the target, which is charged from then on where the source was; the answer tells whether it is
-    /// within all limits. After `BufferLedger.transferOwnership`.
+    /// Adds a reference of the target, which is charged from then on where the source was; the answer tells whether
+    /// every level of the charge is within its limit. After `BufferLedger.transferOwnership`.
     pub fn transfer(
         &mut self,
         alloc: Global,
