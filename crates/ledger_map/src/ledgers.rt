@@ -1,5 +1,6 @@
 //! The ledgers of one chunk, and who owns it.
 ghost use Rattle.std.specs.Prelude.{◌≡◌, ◌^◌, ◌≤◌, ◌<◌, ◌↔◌, ◌≢◌, [], ◌∷◌, IsOk, IsErr, IfOk, IfErr, OnOk, OnErr};
+ghost use Rattle.ledger_map.specs.LedgerState.{IsLawful};
 
 use crate::after::After;
 use crate::counts::{Entries, add_one, take_one};
@@ -36,17 +37,18 @@ impl Model for Ledgers {
 
 impl Ledgers {
     ghost use Rattle.mem_model.specs.Ledgers.{count_of, total_of};
-    ghost use Rattle.ledger_map.specs.LedgerState.{IsLawful, IsUnchanged, AddsOne, TakesOne};
+    ghost use Rattle.ledger_map.specs.LedgerState.{IsUnchanged, AddsOne, TakesOne};
     ghost use Rattle.ledger_map.specs.Release.{new_owner, after_of, IsAfter};
 
-    /// The ledgers of a chunk of `size` bytes, to which its owner has one reference. How many more ledgers fit without memory
-    /// is left open.
+    /// The ledgers of a chunk of `size` bytes, to which its owner has one reference. Two ledgers lie in the value itself, so one
+    /// more fits without memory.
     pub fn new(alloc: Global, size: u64, owner: AllocId) -> Result<Ledgers, NoMemory>
         requires some_bytes { 1 ≤ size }
         requires few_bytes { size ≤ LARGEST }
         ensures size { IfOk result (λ made. made.size ≡ size) }
         ensures owner { IfOk result (λ made. made.owner ≡ owner) }
         ensures ledgers { IfOk result (λ made. made.ledgers ≡ record { at = owner; count = 1 } ∷ []) }
+        ensures spare { IfOk result (λ made. made.spare ≡ 1) }
         ensures lawful { IfOk result IsLawful }
     {
         let mut ledgers = SmallVec::new(alloc);
@@ -63,32 +65,28 @@ impl Ledgers {
 
     /// The bytes of the chunk.
     pub fn size(&self) -> u64
-        ensures value { result ≡ self.now.size }
-        ensures lawful { IsLawful self.now }
+        ensures { result ≡ self.now.size }
     {
         self.size
     }
 
     /// The allocator that is charged for the chunk.
     pub fn owner(&self) -> AllocId
-        ensures value { result ≡ self.now.owner }
-        ensures lawful { IsLawful self.now }
+        ensures { result ≡ self.now.owner }
     {
         self.owner
     }
 
     /// The ledgers, in order of number.
     pub fn entries(&self) -> &[Ledger]
-        ensures value { result.now ≡ self.now.ledgers }
-        ensures lawful { IsLawful self.now }
+        ensures { result.now ≡ self.now.ledgers }
     {
         self.ledgers.as_slice()
     }
 
     /// How many references an allocator has, 0 where it has no ledger.
     pub fn count(&self, at: AllocId) -> u64
-        ensures value { result ≡ count_of self.now.ledgers at.0 }
-        ensures lawful { IsLawful self.now }
+        ensures { result ≡ count_of self.now.ledgers at.0 }
     {
         let ledgers = self.ledgers.as_slice();
         match place_of(ledgers, at) {
@@ -97,18 +95,20 @@ impl Ledgers {
         }
     }
 
-    /// How many references there are.
+    /// How many references there are, at most 2^58.
     pub fn total(&self) -> u64
         ensures value { result ≡ total_of self.now.ledgers }
-        ensures lawful { IsLawful self.now }
+        ensures few { result ≤ 2 ^ 58 }
     {
-        self.entries().iter().map(|ledger| ledger.count).sum()
+        let ledgers = self.ledgers.as_slice();
+        ledgers.iter().map(|ledger| ledger.count).sum()
     }
 
     /// Makes room for one more ledger, and takes no memory where there is room.
     pub fn room(&mut self) -> Result<(), NoMemory>
         ensures made { OnOk result (1 ≤ self.new.spare) }
         ensures had_room { 1 ≤ self.old.spare → IsOk result }
+        ensures does_nothing { 1 ≤ self.old.spare → self.new ≡ self.old }
         ensures unchanged { IsUnchanged self.old self.new }
         ensures kept { self.old.spare ≤ self.new.spare }
         ensures lawful { IsLawful self.new }
@@ -162,6 +162,15 @@ impl Ledgers {
     {
         self.owner = at;
     }
+}
+
+/// The law that the ledgers of every chunk are lawful: they are in order, none is without a reference, and while one remains the
+/// owner has one.
+pub fn ledgers_are_lawful(ledgers: &Ledgers)
+    ensures { IsLawful ledgers.now }
+{
+    // Reading a field tells the proof what always holds of the value.
+    let _ = &ledgers.size;
 }
 
 #[cfg(test)]

@@ -7,4 +7,4 @@ mod ledgers;
 mod place;
 
 pub use after::After;
-pub use ledgers::Ledgers;
+pub use ledgers::{Ledgers, ledgers_are_lawful};
