@@ -89,7 +89,7 @@ pub record IsMade (rows : List (Option Row)) (chunks : List Chunk) (next drawn :
   pub numbers : KeepsNumbers new (state_with new chunks (next + 1) drawn)
   pub places : length new ≡ length rows
   pub told : answer ≡ (child_result (state_with rows chunks next drawn) parent reservation limit).answer
-  pub after : IsAfterCall (tree_with rows chunks next drawn) (child_result (state_with rows chunks next drawn) parent reservation limit) (tree_with new chunks (next + 1) drawn)
+  pub after : (before calls : ℕ) → IsAfterCall (tree_with rows chunks next drawn before) (child_result (state_with rows chunks next drawn) parent reservation limit) (tree_with new chunks (next + 1) drawn calls)
 
 pub child-above : (state : TreeState) (parent : AllocId) (reservation limit : ℕ) → limit < reservation → child_result state parent reservation limit ≡ unchanged state (Err (ReserveAboveLimit reservation limit))
 unfolding child_result
@@ -132,7 +132,7 @@ past_the_last rows chunks next drawn parent reservation limit lawful keeps is_op
       numbers = record { held = keeps.held; uses = keeps.uses };
       places = refl;
       told = sym (ap (λ c. c.answer) call);
-      after = subst (λ c. IsAfterCall (tree_with rows chunks next drawn) c (tree_with rows chunks (next + 1) drawn)) (sym call) (record { state = refl; peaks = λ n. refl });
+      after = λ before calls. subst (λ c. IsAfterCall (tree_with rows chunks next drawn before) c (tree_with rows chunks (next + 1) drawn calls)) (sym call) (record { state = refl; peaks = λ n. refl });
     }
 
 -- a reservation that was refused has spent its number
@@ -154,7 +154,7 @@ reservation_refused rows charged chunks next drawn parent reservation limit full
       numbers = subst (KeepsNumbers charged) (sym is_after) (record { held = answers.held; uses = λ n. ap (λ (f : ℕ → ℕ). f n) kept.uses ∙ keeps.uses n });
       places = kept.length;
       told = ap (λ f. Err (NoRoom f)) answers.refusal.2 ∙ sym (ap (child_answer state request) refusing) ∙ sym (ap (λ c. c.answer) call);
-      after = subst (λ c. IsAfterCall (tree_with rows chunks next drawn) c (tree_with charged chunks (next + 1) drawn)) (sym call) (record {
+      after = λ before calls. subst (λ c. IsAfterCall (tree_with rows chunks next drawn before) c (tree_with charged chunks (next + 1) drawn calls)) (sym call) (record {
         state = is_after ∙ sym (ap (after_child state child) refusing);
         peaks = peaks_raised rows charged (request_sample (nodes_in rows) charges request ∷ []) answers.peaks;
       });
@@ -217,7 +217,7 @@ child_was_made rows charged new chunks next drawn parent reservation limit lawfu
       });
       places = uses.length ∙ length-set charged next (Some row) ∙ kept.length;
       told = sym (ap (child_answer state request) refusing) ∙ sym (ap (λ c. c.answer) call);
-      after = subst (λ c. IsAfterCall (tree_with rows chunks next drawn) c (tree_with new chunks (next + 1) drawn)) (sym call) (record {
+      after = λ before calls. subst (λ c. IsAfterCall (tree_with rows chunks next drawn before) c (tree_with new chunks (next + 1) drawn calls)) (sym call) (record {
         state = is_after ∙ sym (ap (after_child state child) refusing);
         peaks = peaks_raised rows new (request_sample (nodes_in rows) charges request ∷ []) (peaks ∙ answers.peaks);
       });

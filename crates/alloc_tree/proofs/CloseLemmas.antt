@@ -188,7 +188,7 @@ pub record IsClosed (rows : List (Option Row)) (chunks : List Chunk) (next drawn
   pub numbers : KeepsNumbers new (state_with new chunks next drawn)
   pub places : length new ≡ length rows
   pub told : Ok tt ≡ (close_result (state_with rows chunks next drawn) at).answer
-  pub after : IsAfterCall (tree_with rows chunks next drawn) (close_result (state_with rows chunks next drawn) at) (tree_with new chunks next drawn)
+  pub after : (before calls : ℕ) → IsAfterCall (tree_with rows chunks next drawn before) (close_result (state_with rows chunks next drawn) at) (tree_with new chunks next drawn calls)
 
 pub close-closed : (state : TreeState) (at : AllocId) → is_open state at.0 ≡ false → close_result state at ≡ unchanged state (Err (Closed 0))
 unfolding close_result
@@ -227,7 +227,7 @@ closed_at_parent rows done lower new chunks next drawn at p row keeps open_ none
       });
       places = uses.length ∙ kept.length ∙ shut'.length;
       told = sym (ap (λ c. c.answer) call);
-      after = subst (λ c. IsAfterCall (tree_with rows chunks next drawn) c (tree_with new chunks next drawn)) (sym call) (record {
+      after = λ before calls. subst (λ c. IsAfterCall (tree_with rows chunks next drawn before) c (tree_with new chunks next drawn calls)) (sym call) (record {
         state = is_after;
         peaks = λ n. peaks_of-at new n ∙ ap (λ (f : ℕ → ℕ). f n) (uses.peaks ∙ peaks ∙ shut'.peaks) ∙ sym (peaks_of-at rows n);
       });
@@ -249,7 +249,7 @@ closed_root rows new chunks next drawn at row keeps open_ none shut' root =
       };
       places = shut'.length;
       told = sym (ap (λ c. c.answer) call);
-      after = subst (λ c. IsAfterCall (tree_with rows chunks next drawn) c (tree_with new chunks next drawn)) (sym call) (record {
+      after = λ before calls. subst (λ c. IsAfterCall (tree_with rows chunks next drawn before) c (tree_with new chunks next drawn calls)) (sym call) (record {
         state = ap (λ ns. with_nodes ns chunks next drawn) shut'.nodes;
         peaks = λ n. peaks_of-at new n ∙ ap (λ (f : ℕ → ℕ). f n) shut'.peaks ∙ sym (peaks_of-at rows n);
       });

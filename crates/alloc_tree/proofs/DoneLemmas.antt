@@ -28,7 +28,7 @@ pub record IsDone {A : Type 0} (rows : List (Option Row)) (chunks : List Chunk) 
   pub numbers : KeepsNumbers new (state_with new left next drawn)
   pub places : length new ≡ length rows
   pub told : answer ≡ call.answer
-  pub after : IsAfterCall (tree_with rows chunks next drawn) call (tree_with new left next drawn)
+  pub after : (before calls : ℕ) → IsAfterCall (tree_with rows chunks next drawn before) call (tree_with new left next drawn calls)
 
 -- the tree with other chunks
 abbrev pub state_left : List (Option Row) → List Chunk → ℕ → ℕ → TreeState
@@ -49,7 +49,7 @@ done rows new chunks left next drawn call answer samples is nodes places lawful 
       numbers = subst (KeepsNumbers new) (sym is_after) (record { held = balance; uses = uses });
       places = places;
       told = sym (ap (λ c. c.answer) is);
-      after = subst (λ c. IsAfterCall (tree_with rows chunks next drawn) c (tree_with new left next drawn)) (sym is) (record { state = is_after; peaks = peaks_raised rows new samples peaks });
+      after = λ before calls. subst (λ c. IsAfterCall (tree_with rows chunks next drawn before) c (tree_with new left next drawn calls)) (sym is) (record { state = is_after; peaks = peaks_raised rows new samples peaks });
     }
 
 -- numbers that balance, where as much is charged everywhere

@@ -32,9 +32,9 @@ use Rattle.alloc_tree.proofs.UseLemmas.{use_counted}
 use Rattle.alloc_tree.proofs.ChangeLemmas.{ledger_count}
 use Rattle.alloc_tree.proofs.OpenLemmas.{peaks_of-at}
 
--- the tree of rows and chunks
-abbrev pub tree_with : List (Option Row) → List Chunk → ℕ → ℕ → MeasuredTree
-tree_with rows chunks next drawn = record { state = state_with rows chunks next drawn; peaks = peaks_of rows }
+-- the tree of rows and chunks, with a count of calls
+abbrev pub tree_with : List (Option Row) → List Chunk → ℕ → ℕ → ℕ → MeasuredTree
+tree_with rows chunks next drawn calls = record { state = state_with rows chunks next drawn; peaks = peaks_of rows; calls = calls }
 
 -- peaks by number, where samples raise those of the rows
 pub peaks_raised : (rows new : List (Option Row)) (samples : List PeakSample) → peaks_in new ≡ raised_peaks (peaks_in rows) samples → (n : ℕ) → get_or (peaks_of new) n 0 ≡ raised_peaks (λ m. get_or (peaks_of rows) m 0) samples n
@@ -56,7 +56,7 @@ pub record IsGranted (rows : List (Option Row)) (chunks : List Chunk) (next draw
   pub numbers : KeepsNumbers new (state_with new new_chunks next (drawn + 1))
   pub places : length new ≡ length rows
   pub told : answer ≡ (charge_result (state_with rows chunks next drawn) (record { at = at; amount = size })).answer
-  pub after : IsAfterCall (tree_with rows chunks next drawn) (charge_result (state_with rows chunks next drawn) (record { at = at; amount = size })) (tree_with new new_chunks next (drawn + 1))
+  pub after : (before calls : ℕ) → IsAfterCall (tree_with rows chunks next drawn before) (charge_result (state_with rows chunks next drawn) (record { at = at; amount = size })) (tree_with new new_chunks next (drawn + 1) calls)
 
 with_nodes : List TreeNode → List Chunk → ℕ → ℕ → TreeState
 with_nodes nodes chunks next drawn = record { nodes = nodes; chunks = chunks; next = next; drawn = drawn }
@@ -90,7 +90,7 @@ granted rows charged new chunks next drawn at size lawful keeps is_open some few
       numbers = subst (KeepsNumbers new) (sym is_after) (record { held = balance; uses = counted });
       places = uses.length ∙ kept.length;
       told = sym (ap (charge_answer state request) refusing);
-      after = record {
+      after = λ before calls. record {
         state = is_after ∙ sym (ap (after_charge state request) refusing);
         peaks = peaks_raised rows new (request_sample (nodes_in rows) charges request ∷ []) (uses.peaks ∙ answers.peaks);
       };
@@ -132,7 +132,7 @@ grant_refused rows charged chunks left next drawn at size full lawful keeps kept
       numbers = subst (KeepsNumbers charged) (sym is_after) (record { held = answers.held; uses = λ n. ap (λ (f : ℕ → ℕ). f n) kept.uses ∙ keeps.uses n });
       places = kept.length;
       told = ap (λ f. Err (NoRoom f)) answers.refusal.2 ∙ sym (ap (charge_answer state request) refusing);
-      after = record {
+      after = λ before calls. record {
         state = is_after ∙ sym (ap (after_charge state request) refusing);
         peaks = peaks_raised rows charged (request_sample (nodes_in rows) charges request ∷ []) answers.peaks;
       };

@@ -1,5 +1,5 @@
 -- The lemmas of this crate.
-mod NamesLemmas
+pub mod NamesLemmas
 mod ChunkLemmas
 mod ReferenceLemmas
 mod ChangeLemmas

@@ -1,5 +1,5 @@
 -- Names among the entries of a map.
-use Rattle.std.proofs.Common.{◌≡◌, ◌≢◌, ◌==◌, ◌<◌, ℕ, List, [], ◌∷◌, ◌++◌, length, get_or, map, Bool, true, false, IsTrue, refl, sym, ap, ◌∙◌, inl, inr, subst, Option, IsSome, is_some, String, Global, string_bytes, codes}
+use Rattle.std.proofs.Common.{◌≡◌, ◌≢◌, ◌==◌, ◌<◌, ℕ, List, [], ◌∷◌, ◌++◌, length, get_or, map, Bool, true, false, IsTrue, refl, sym, ap, ◌∙◌, inl, inr, arith, subst, Option, IsSome, is_some, String, Global, string_bytes, codes}
 use Rattle.std.specs.List.{find, list_any, AllZip}
 use Rattle.std.specs.Map.{lookup}
 use Rattle.std.specs.Option.{option_map}
@@ -7,11 +7,13 @@ use Rattle.std.specs.Str.{bytes_eq}
 use Rattle.std.specs.String.{string_eq}
 use Rattle.std.proofs.lemmas.Bool.{cases_Bool, or_parts, false≢true, ne_eqb}
 use Rattle.std.proofs.lemmas.List.Folds.{list_any_at}
+use Rattle.std.proofs.lemmas.List.Elements.{All-cons, All-nil, All-push}
 use Rattle.std.proofs.lemmas.List.Quantifiers.{all_pairs_push}
 use Rattle.std.proofs.lemmas.Slice.Eq.{bytes_eq-Decides}
 use Rattle.indexmap.specs.IndexMap.{insert_entry}
 use Rattle.mem_num.specs.declared.alloc_id.AllocId.{AllocId}
-use Rattle.alloc_tree.specs.Names.{binding_of, bindings_of, root_binding, is_bound, allocator_of, name_of, AreUnique}
+use Rattle.mem_num.specs.Name.{is_name}
+use Rattle.alloc_tree.specs.Names.{binding_of, bindings_of, root_binding, is_bound, allocator_of, name_of, AreLawful}
 
 -- a search finds something where an element passes
 is_some-find : {X Y : Type 0} (f : X → Y) (test : X → Bool) (xs : List X) → is_some (option_map f (find test xs)) ≡ list_any test xs
@@ -60,6 +62,14 @@ name_of-entries entries n r other is =
     let apart : (0 == n) ≡ false = ne_eqb 0 n (λ same. other (sym same)) in
     ap (option_map (λ entry. string_bytes entry.0)) is ∙ (sym (find-named entries n) ∙ rw apart refl)
 
+-- the root's name alone
+pub AreLawful-root : AreLawful (root_binding ∷ [])
+unfolding is_name
+AreLawful-root = record {
+  unique = λ i j d before within. absurd (omega arith);
+  names = All-cons (λ (binding : List ℕ × AllocId). is_name binding.0 ≡ true) root_binding [] refl (All-nil (λ (binding : List ℕ × AllocId). is_name binding.0 ≡ true));
+}
+
 -- a free name is none of those that are bound
 free-differs : (bindings : List (List ℕ × AllocId)) (name : List ℕ) → is_bound bindings name ≡ false
     → (k : ℕ) (d : List ℕ × AllocId) → k < length bindings → (get_or bindings k d).0 ≢ name
@@ -68,10 +78,12 @@ free-differs bindings name free k d within same =
     false≢true (sym free ∙ list_any_at (λ binding. bytes_eq name binding.0) bindings k d within passes)
 
 -- so it can be bound once more
-pub AreUnique-bound : (bindings : List (List ℕ × AllocId)) (name : List ℕ) (at : AllocId) → AreUnique bindings → is_bound bindings name ≡ false
-    → AreUnique (bindings ++ (name, at) ∷ [])
-AreUnique-bound bindings name at unique free =
-    all_pairs_push (λ before after. before.0 ≢ after.0) bindings (name, at) unique (free-differs bindings name free)
+pub AreLawful-bound : (bindings : List (List ℕ × AllocId)) (name : List ℕ) (at : AllocId) → AreLawful bindings → is_bound bindings name ≡ false
+    → is_name name ≡ true → AreLawful (bindings ++ (name, at) ∷ [])
+AreLawful-bound bindings name at lawful free is = record {
+  unique = all_pairs_push (λ before after. before.0 ≢ after.0) bindings (name, at) lawful.unique (free-differs bindings name free);
+  names = All-push (λ (binding : List ℕ × AllocId). is_name binding.0 ≡ true) bindings (name, at) lawful.names is;
+}
 
 -- an entry that is new goes last
 insert_entry-last : (entries : List (String Global × AllocId)) (text : String Global) (at : AllocId)

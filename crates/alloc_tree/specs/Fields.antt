@@ -17,7 +17,7 @@ abbrev pub state_of : Inside → TreeState
 state_of fields = state_with fields.rows fields.chunks fields.next fields.drawn
 
 abbrev pub tree_of : Inside → MeasuredTree
-tree_of fields = record { state = state_of fields; peaks = peaks_of fields.rows }
+tree_of fields = record { state = state_of fields; peaks = peaks_of fields.rows; calls = fields.calls }
 
 -- the numbers that rows keep are those of the tree
 pub record KeepsNumbers (rows : List (Option Row)) (state : TreeState) : Type 0 where

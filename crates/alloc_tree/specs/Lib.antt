@@ -5,4 +5,5 @@ pub mod TakeOver
 pub mod Rows
 pub mod Placed
 pub mod Walk
+pub mod Counting
 pub mod Fields

@@ -1,19 +1,11 @@
 -- The names of allocators, in order of binding. A name is a list of bytes.
-use Rattle.std.specs.Prelude.{◌≢◌, ℕ, Bool, ◌&&◌, ◌||◌, nat_le, nat_lt, ◌==◌, List, ◌∷◌, length, map, Option, codes, String, string_bytes, AllPairs}
-use Rattle.std.specs.List.{find, list_all, list_any}
+use Rattle.std.specs.Prelude.{◌≡◌, ◌≢◌, ℕ, Bool, true, ◌==◌, List, ◌∷◌, map, Option, codes, String, string_bytes, All, AllPairs}
+use Rattle.std.specs.List.{find, list_any}
 use Rattle.std.specs.Option.{option_map}
-use Rattle.std.specs.Char.{is_ascii_alphanumeric}
 use Rattle.std.specs.Str.{bytes_eq}
 use Rattle.std.specs.Global.{Global}
 use Rattle.mem_num.specs.declared.alloc_id.AllocId.{AllocId}
-
--- a letter, a digit, '_', '-' or '.'
-abbrev pub is_name_byte : ℕ → Bool
-is_name_byte byte = is_ascii_alphanumeric byte || (byte == 95) || (byte == 45) || (byte == 46)
-
--- a name is 1 to 32 bytes, each a letter, a digit, '_', '-' or '.'
-unfoldable pub is_name : List ℕ → Bool
-is_name word = nat_lt 0 (length word) && nat_le (length word) 32 && list_all is_name_byte word
+use Rattle.mem_num.specs.Name.{is_name}
 
 -- what a contract sees of `Names`: each bound name with its allocator, in order of binding, and how many more fit without memory
 pub record NamesState : Type 0 where
@@ -43,6 +35,15 @@ name_of bindings n = option_map (λ binding. binding.0) (find (λ binding. bindi
 -- no name is bound twice
 abbrev pub AreUnique : List (List ℕ × AllocId) → Type 0
 AreUnique bindings = AllPairs (λ before after. before.0 ≢ after.0) bindings
+
+-- what is bound is a name
+abbrev pub AreNames : List (List ℕ × AllocId) → Type 0
+AreNames bindings = All (λ binding. is_name binding.0 ≡ true) bindings
+
+-- what holds of all that are bound: each is a name, and no two are the same
+pub record AreLawful (bindings : List (List ℕ × AllocId)) : Type 0 where
+  pub unique : AreUnique bindings
+  pub names : AreNames bindings
 
 -- the binding of an entry of a map
 abbrev pub binding_of : String Global × AllocId → List ℕ × AllocId

@@ -1,16 +1,14 @@
 //! The live chunks of a tree.
 ghost use Rattle.std.specs.Prelude.{◌≡◌, ◌≢◌, ℕ, ◌<◌, ◌≤◌, ◌^◌, [], ◌∷◌, ◌++◌, map, All, OnOk, OnErr};
 ghost use Rattle.std.specs.List.{find};
-ghost use Rattle.std.specs.Map.Iter.{ShowsInOrder, deref_pair};
 ghost use Rattle.std.specs.Option.{ForSome, option_map};
 ghost use Rattle.mem_model.specs.Chunk as model;
 ghost use Rattle.mem_model.specs.Ledgers.{count_of, total_of};
 ghost use Rattle.mem_model.specs.References.{refers_to};
 ghost use Rattle.mem_model.specs.Release.{without_chunk};
-ghost use Rattle.ledger_map.specs.LedgerState.{LedgerState};
 ghost use Rattle.alloc_tree.specs.Chunks.{AreInOrder, chunk_of, chunk_at, with_changed, after_of_release, without_reference};
 
-use ledger_map::{After, Ledgers};
+use ledger_map::{After, Ledgers, ledgers_are_lawful};
 use mem_num::{AllocId, NoMemory, Ref};
 use std::alloc::Global;
 use std::collections::BTreeMap;
@@ -83,8 +81,7 @@ impl Chunks {
 
     /// The chunks in order of number.
     pub fn iter(&self) -> Iter<'_, u32, Ledgers>
-        ensures chunks { map chunk_of result ≡ self.now }
-        ensures runs { ShowsInOrder (deref_pair {K = ℕ} {X = LedgerState}) }
+        ensures { map chunk_of result ≡ self.now }
     {
         self.by_number.iter()
     }
@@ -115,6 +112,7 @@ impl Chunks {
         ensures left { self.new ≡ without_reference of self.old }
     {
         let ledgers = self.by_number.get_mut(&of.chunk)?;
+        ledgers_are_lawful(ledgers);
         let size = ledgers.size();
         let Ok(after) = ledgers.release(of.alloc) else {
             return None;

@@ -14,5 +14,4 @@ mod walk;
 pub use name::Name;
 pub use name_refused::NameRefused;
 pub use names::Names;
-pub use rows::MOST_NODES;
-pub use solo_tree::SoloTree;
+pub use solo_tree::{SoloTree, every_tree_is_lawful};

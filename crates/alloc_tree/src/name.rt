@@ -1,7 +1,6 @@
-//! A name that is ready to be bound, and which texts are names.
+//! A name that is ready to be bound.
 ghost use Rattle.std.specs.Prelude.{◌≡◌, ℕ, List, IfOk, IsTrue, string_bytes};
-ghost use Rattle.std.specs.List.{list_all};
-ghost use Rattle.alloc_tree.specs.Names.{is_name, is_name_byte};
+ghost use Rattle.mem_num.specs.Name.{is_name};
 
 use std::alloc::{AllocError, Global};
 use std::marker::Model;
@@ -38,29 +37,9 @@ impl Name {
     }
 
     pub(crate) fn into_text(self) -> String
-        ensures { string_bytes result ≡ self }
+        ensures value { string_bytes result ≡ self }
+        ensures well_formed { IsTrue (is_name self) }
     {
         self.text
     }
-}
-
-/// Whether a text is a name.
-#[tactic(auto, unfolding(crate::specs::Names::is_name))]
-pub(crate) fn is_name(text: &str) -> bool
-    ensures { result ≡ is_name text.now }
-{
-    let bytes = text.as_bytes();
-    !bytes.is_empty() && bytes.len() <= 32 && are_name_bytes(bytes)
-}
-
-fn are_name_bytes(bytes: &[u8]) -> bool
-    ensures { result ≡ list_all is_name_byte bytes.now }
-{
-    bytes.iter().all(|byte| is_name_byte(*byte))
-}
-
-fn is_name_byte(byte: u8) -> bool
-    ensures { result ≡ is_name_byte byte }
-{
-    byte.is_ascii_alphanumeric() || byte == b'_' || byte == b'-' || byte == b'.'
 }

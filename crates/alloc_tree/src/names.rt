@@ -3,12 +3,13 @@ ghost use Rattle.std.specs.Prelude.{◌≡◌, ◌==◌, ◌+◌, ◌≤◌, ◌
 ghost use Rattle.std.specs.List.{find};
 ghost use Rattle.std.specs.Map.Iter.{deref_pair};
 ghost use Rattle.std.specs.Option.{option_copied, option_map};
-ghost use Rattle.alloc_tree.specs.Names.{allocator_of, is_bound, is_name, is_named, name_of, root_binding, AreUnique};
+ghost use Rattle.mem_num.specs.Name.{is_name};
+ghost use Rattle.alloc_tree.specs.Names.{allocator_of, is_bound, is_named, name_of, root_binding, AreNames, AreUnique};
 
-use crate::name::{Name, is_name};
+use crate::name::Name;
 use crate::name_refused::NameRefused;
 use indexmap::IndexMap;
-use mem_num::{AllocId, NoMemory};
+use mem_num::{AllocId, NoMemory, is_name};
 use std::alloc::Global;
 use std::marker::Model;
 
@@ -23,14 +24,14 @@ pub struct Names {
 }
 
 impl Model for Names {
-    ghost use Rattle.alloc_tree.specs.Names.{AreUnique, NamesState, bindings_of};
+    ghost use Rattle.alloc_tree.specs.Names.{AreLawful, NamesState, bindings_of};
     ghost use Rattle.indexmap.specs.IndexMap.{spare};
 
     ghost Value = { NamesState };
 
     ghost view = { λ names. record { bindings = bindings_of names.bound.entries; spare = spare names.bound } };
 
-    ghost invariant = { λ names. AreUnique (bindings_of names.bound.entries) };
+    ghost invariant = { λ names. AreLawful (bindings_of names.bound.entries) };
 }
 
 impl Names {
@@ -60,7 +61,7 @@ impl Names {
         ensures kept { self.new.bindings ≡ self.old.bindings }
         ensures spare { self.old.spare ≤ self.new.spare }
     {
-        if !is_name(name) {
+        if !is_name(name.as_bytes()) {
             return Err(NameRefused::BadName);
         }
         if self.find(name).is_some() {
@@ -90,7 +91,10 @@ impl Names {
     pub fn find(&self, name: &str) -> Option<AllocId>
         ensures value { result ≡ allocator_of self.now.bindings name.now }
         ensures bound { IsSome result ↔ IsTrue (is_bound self.now.bindings name.now) }
+
+        // No name is bound twice, and only names are bound.
         ensures unique { AreUnique self.now.bindings }
+        ensures well_formed { AreNames self.now.bindings }
     {
         let bound = &self.bound;
         if name == ROOT {
@@ -103,7 +107,10 @@ impl Names {
     pub fn name_of(&self, at: AllocId) -> Option<&str>
         ensures value { option_copied result ≡ name_of self.now.bindings at.0 }
         ensures named { IsSome result ↔ IsTrue (is_named self.now.bindings at.0) }
+
+        // No name is bound twice, and only names are bound.
         ensures unique { AreUnique self.now.bindings }
+        ensures well_formed { AreNames self.now.bindings }
     {
         let bound = &self.bound;
         if at.0 == 0 {

@@ -9,12 +9,9 @@ ghost use Rattle.alloc_tree.specs.Walk.{KeepsNodes, AnswersRequest, MovesAmount,
 
 use crate::row::Row;
 use crate::{uses, walk};
-use mem_num::{AllocId, Full};
+use mem_num::{AllocId, Full, MOST_ALLOCATORS};
 use std::alloc::{AllocError, Global};
 use std::marker::Model;
-
-/// How many allocators a tree may have in its life, the root included.
-pub const MOST_NODES: u32 = 64;
 
 /// A place for each number that an allocator may have, seen as the list of them.
 #[derive(Drop)]
@@ -36,7 +33,7 @@ impl Rows {
     pub fn opened(alloc: Global, limit: u64) -> Result<Rows, AllocError>
         ensures { IfOk result (λ rows. rows ≡ opened_rows limit) }
     {
-        let mut rows = vec![in alloc; None; MOST_NODES as usize]?;
+        let mut rows = vec![in alloc; None; MOST_ALLOCATORS as usize]?;
         rows[0] = Some(Row::root(limit));
         Ok(Rows { rows })
     }

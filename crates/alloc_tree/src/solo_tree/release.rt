@@ -13,6 +13,7 @@ impl SoloTree {
     pub fn release(&mut self, of: Ref) -> Result<bool, Released>
         ensures answer { result ≡ (release_result self.old.state of).answer }
         ensures after { IsAfterCall self.old (release_result self.old.state of) self.new }
+        ensures uncounted { self.new.calls ≡ self.old.calls }
     {
         let Some((after, size)) = self.chunks.release(of) else {
             return Err(Released {

@@ -1,10 +1,12 @@
 //! Referring to a chunk of a tree from one allocator more.
 ghost use Rattle.std.specs.Prelude.{◌≡◌, ◌≢◌, ◌↔◌, IsTrue, Err};
+ghost use Rattle.mem_model.specs.Calls.{one_if_ok};
 ghost use Rattle.mem_model.specs.MeasuredTree.{IsAfterCall};
 ghost use Rattle.mem_model.specs.References.{HasRoomFor};
 ghost use Rattle.mem_model.specs.Retain.{retain_result};
+ghost use Rattle.alloc_tree.specs.Counting.{count_after};
 
-use crate::solo_tree::SoloTree;
+use crate::solo_tree::{SoloTree, one_more};
 use mem_num::{AllocId, Closed, Ref, Released, SoloRefused};
 
 impl SoloTree {
@@ -25,6 +27,9 @@ impl SoloTree {
         ensures answer { result ≢ Err SoloRefused.NoMemory → result ≡ (retain_result self.old.state of target).answer }
         ensures after { result ≢ Err SoloRefused.NoMemory → IsAfterCall self.old (retain_result self.old.state of target) self.new }
         ensures no_memory { result ≡ Err SoloRefused.NoMemory → self.new ≡ self.old }
+
+        // It is counted where it adds a reference.
+        ensures counted { self.new.calls ≡ count_after self.old.calls (one_if_ok result) }
     {
         let Some(ledgers) = self.chunks.referred(of) else {
             return Err(SoloRefused::Released(Released {
@@ -47,6 +52,7 @@ impl SoloTree {
         let Ok(_) = self.chunks.retain(of.chunk, target) else {
             return Err(SoloRefused::NoMemory);
         };
+        self.calls = one_more(self.calls);
         if count > 0 {
             return Ok(reference);
         }

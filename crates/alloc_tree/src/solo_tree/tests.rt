@@ -149,6 +149,8 @@ fn a_tree_has_at_most_64_allocators(rt: HostRuntime) -> Result<(), Fail> {
         let refused = Err(ChildRefused::Nodes { next });
         assert_eq!(rt; child(&rt, &mut tree, ROOT, 0, UNLIMITED), refused);
     }
+    // Each of them drew a number.
+    assert_eq!(rt; tree.calls(), 65);
     Ok(())
 }
 
@@ -223,6 +225,23 @@ fn an_unused_reservation_is_headroom(rt: HostRuntime) -> Result<(), Fail> {
     assert_eq!(rt; tree.headroom(C), Err(closed));
     assert_eq!(rt; tree.over_limit(C), Err(closed));
     assert_eq!(rt; tree.headroom(ROOT), Ok(1_024));
+    Ok(())
+}
+
+#[test]
+fn an_allocator_is_over_by_its_parent_alone(rt: HostRuntime) -> Result<(), Fail> {
+    let mut tree = open(&rt, UNLIMITED)?;
+    let below = AllocId(2);
+    assert_eq!(rt; child(&rt, &mut tree, ROOT, 0, 512), Ok(C));
+    assert_eq!(rt; child(&rt, &mut tree, C, 0, UNLIMITED), Ok(below));
+    let given = buffer(1, ROOT, 1_024);
+    assert_eq!(rt; grant(&rt, &mut tree, ROOT, 1_024), Ok(given));
+    let moved = Ok((buffer(1, below, 1_024), false));
+    assert_eq!(rt; transfer(&rt, &mut tree, given, below), moved);
+    for (at, is_over) in [(below, true), (C, true), (ROOT, false)] {
+        assert_eq!(rt; tree.over_limit(at), Ok(is_over));
+    }
+    assert_eq!(rt; tree.headroom(below), Ok(-512));
     Ok(())
 }
 

@@ -8,8 +8,8 @@ returns-in_err-ledgers c = rw c.from_residual.ensures (sym (refers_to_none c.arg
 
 pub returns-then-count-eq0 : goal.returns-then-count-eq0
 returns-then-count-eq0 c =
-    sym (refers_without_count c.args.of c.args.self.now (chunk_of (c.args.of.chunk, c.in_ok-ledgers.ledgers.now)) c.get.ensures.ordered (sym c.in_ok-ledgers.ensures.chunk) (sym c.count.ensures.value ∙ c.if-count-eq0.true))
+    sym (refers_without_count c.args.of c.args.self.now (chunk_of (c.args.of.chunk, c.in_ok-ledgers.ledgers.now)) c.get.ensures.ordered (sym c.in_ok-ledgers.ensures.chunk) (sym c.count.ensures ∙ c.if-count-eq0.true))
 
 pub returns : goal.returns
 returns c =
-    sym (refers_with_count c.args.of c.args.self.now (chunk_of (c.args.of.chunk, c.in_ok-ledgers.ledgers.now)) c.get.ensures.ordered (sym c.in_ok-ledgers.ensures.chunk) (λ none. c.if-count-eq0.false (c.count.ensures.value ∙ none)))
+    sym (refers_with_count c.args.of c.args.self.now (chunk_of (c.args.of.chunk, c.in_ok-ledgers.ledgers.now)) c.get.ensures.ordered (sym c.in_ok-ledgers.ensures.chunk) (λ none. c.if-count-eq0.false (c.count.ensures ∙ none)))

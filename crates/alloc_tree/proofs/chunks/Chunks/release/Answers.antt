@@ -39,7 +39,7 @@ returns-in_default-clause-left c =
 -- a reference went, and a ledger is left
 stays : (c : goal.Then-not-is_empty) → IsTaken c.args.of.alloc.0 c.in_ok-ledgers.ledgers.now c.release.new.self c.in-Ok.after
 stays c = record {
-  before = c.size-size.ensures.lawful;
+  before = c.ledgers_are_lawful.ensures;
   lawful = c.release.ensures.lawful;
   taken = c.in-Ok.ensures.taken;
   answer = c.in-Ok.ensures.after;
@@ -52,18 +52,18 @@ invariant_of-self-then-not-is_empty c = set_in_order c.self.inside.by_number.ent
 
 pub returns-then-not-is_empty-clause-after : goal.returns-then-not-is_empty-clause-after
 returns-then-not-is_empty-clause-after c =
-    taken_answer c.args.of c.self.inside.by_number.entries c.in_ok-ledgers.ledgers.now c.release.new.self c.in-Ok.after c.size-size.result c.self.invariant (sym c.in_ok-ledgers.ensures.value) (stays c) c.size-size.ensures.value
+    taken_answer c.args.of c.self.inside.by_number.entries c.in_ok-ledgers.ledgers.now c.release.new.self c.in-Ok.after c.size-size.result c.self.invariant (sym c.in_ok-ledgers.ensures.value) (stays c) c.size-size.ensures
     ∙ ap (λ (chunks : List Chunk). option_map (after_of_release c.args.of.alloc) (find (refers_to c.args.of) chunks)) c.self.view_is
 
 pub returns-then-not-is_empty-clause-left : goal.returns-then-not-is_empty-clause-left
 returns-then-not-is_empty-clause-left c =
     taken_stays c.args.of c.self.inside.by_number.entries _ c.in_ok-ledgers.ledgers.now c.release.new.self c.in-Ok.after c.self.invariant (sym c.in_ok-ledgers.ensures.value) (stays c) (c.get_mut.follows.holds c.release.new.self).0
-    (λ none. eqb-false (length c.release.new.self.ledgers) 0 (ap (λ ledgers. eqb (length ledgers) 0) (sym c.entries.ensures.value) ∙ sym c.is_empty.ensures ∙ c.if-not-is_empty.true) (ap length none)) ∙ ap (without_reference c.args.of) c.self.view_is
+    (λ none. eqb-false (length c.release.new.self.ledgers) 0 (ap (λ ledgers. eqb (length ledgers) 0) (sym c.entries.ensures) ∙ sym c.is_empty.ensures ∙ c.if-not-is_empty.true) (ap length none)) ∙ ap (without_reference c.args.of) c.self.view_is
 
 -- the last one went
 goes : (c : goal.Joined-remove) → IsTaken c.args.of.alloc.0 c.in_ok-ledgers.ledgers.now c.release.new.self c.in-Ok.after
 goes c = record {
-  before = c.size-size.ensures.lawful;
+  before = c.ledgers_are_lawful.ensures;
   lawful = c.release.ensures.lawful;
   taken = c.in-Ok.ensures.taken;
   answer = c.in-Ok.ensures.after;
@@ -77,11 +77,11 @@ invariant_of-self-2 c =
 
 pub returns-clause-after : goal.returns-clause-after
 returns-clause-after c =
-    taken_answer c.args.of c.self.inside.by_number.entries c.in_ok-ledgers.ledgers.now c.release.new.self c.in-Ok.after c.size-size.result c.self.invariant (sym c.in_ok-ledgers.ensures.value) (goes c) c.size-size.ensures.value
+    taken_answer c.args.of c.self.inside.by_number.entries c.in_ok-ledgers.ledgers.now c.release.new.self c.in-Ok.after c.size-size.result c.self.invariant (sym c.in_ok-ledgers.ensures.value) (goes c) c.size-size.ensures
     ∙ ap (λ (chunks : List Chunk). option_map (after_of_release c.args.of.alloc) (find (refers_to c.args.of) chunks)) c.self.view_is
 
 pub returns-clause-left : goal.returns-clause-left
 returns-clause-left c =
     ap (map chunk_of) c.remove.ensures.entries
     ∙ taken_goes c.args.of c.self.inside.by_number.entries _ c.in_ok-ledgers.ledgers.now c.release.new.self c.in-Ok.after c.self.invariant (sym c.in_ok-ledgers.ensures.value) (goes c) (c.get_mut.follows.holds c.release.new.self).0
-    (nil_from_length c.release.new.self.ledgers (eqb-true (length c.release.new.self.ledgers) 0 (ap (λ ledgers. eqb (length ledgers) 0) (sym c.entries.ensures.value) ∙ sym c.is_empty.ensures ∙ c.if-not-is_empty.false))) ∙ ap (without_reference c.args.of) c.self.view_is
+    (nil_from_length c.release.new.self.ledgers (eqb-true (length c.release.new.self.ledgers) 0 (ap (λ ledgers. eqb (length ledgers) 0) (sym c.entries.ensures) ∙ sym c.is_empty.ensures ∙ c.if-not-is_empty.false))) ∙ ap (without_reference c.args.of) c.self.view_is

@@ -45,7 +45,7 @@ returns-in-Err-clause-answer c = λ _.
 
 pub returns-in-Err-clause-after : goal.returns-in-Err-clause-after
 returns-in-Err-clause-after c = λ _.
-    subst (λ (t : MeasuredTree). IsAfterCall t (charge_result t.state (record { at = c.args.at; amount = c.args.size })) (tree_with c.request.new.self c.remove.new.self c.self.inside.next (c.self.inside.drawn + 1))) c.self.view_is (refused_parts c).after
+    subst (λ (t : MeasuredTree). IsAfterCall t (charge_result t.state (record { at = c.args.at; amount = c.args.size })) (tree_with c.request.new.self c.remove.new.self c.self.inside.next (c.self.inside.drawn + 1) c.one_more-self-inside.result)) c.self.view_is ((refused_parts c).after c.self.inside.calls c.one_more-self-inside.result)
 
 -- it was granted
 pub add_use-requires-clause-made : goal.add_use-requires-clause-made
@@ -82,4 +82,4 @@ returns-clause-answer c = λ _.
 
 pub returns-clause-after : goal.returns-clause-after
 returns-clause-after c = λ _.
-    subst (λ (t : MeasuredTree). IsAfterCall t (charge_result t.state (record { at = c.args.at; amount = c.args.size })) (tree_with c.add_use.new.self c.push.new.self c.self.inside.next (c.self.inside.drawn + 1))) c.self.view_is (granted_parts c).after
+    subst (λ (t : MeasuredTree). IsAfterCall t (charge_result t.state (record { at = c.args.at; amount = c.args.size })) (tree_with c.add_use.new.self c.push.new.self c.self.inside.next (c.self.inside.drawn + 1) c.one_more-self-inside.result)) c.self.view_is ((granted_parts c).after c.self.inside.calls c.one_more-self-inside.result)

@@ -28,16 +28,16 @@ past_parts : (c : goal.After-into) → IsMade c.self.inside.rows c.self.inside.c
 past_parts c =
     let f = c.self.inside in
     let is_open' = ap (λ (t : MeasuredTree). is_open t.state c.args.parent.0) c.self.view_is ∙ sym c.is_open.ensures ∙ c.if-not-is_open.false in
-    past_the_last f.rows f.chunks f.next f.drawn c.args.parent c.args.reservation c.args.limit c.self.invariant.lawful c.self.invariant.numbers is_open' c.if-reservation-limit.false c.if-number-ge-MOST_NODES.true
+    past_the_last f.rows f.chunks f.next f.drawn c.args.parent c.args.reservation c.args.limit c.self.invariant.lawful c.self.invariant.numbers is_open' c.if-reservation-limit.false c.if-number-ge-MOST_ALLOCATORS.true
 
-pub returns-then-number-ge-MOST_NODES-clause-answer : goal.returns-then-number-ge-MOST_NODES-clause-answer
-returns-then-number-ge-MOST_NODES-clause-answer c =
+pub returns-then-number-ge-MOST_ALLOCATORS-clause-answer : goal.returns-then-number-ge-MOST_ALLOCATORS-clause-answer
+returns-then-number-ge-MOST_ALLOCATORS-clause-answer c =
     rw c.into.ensures (subst (λ (t : MeasuredTree). Err (Nodes c.self.inside.next) ≡ (child_result t.state c.args.parent c.args.reservation c.args.limit).answer) c.self.view_is (past_parts c).told)
 
-pub returns-then-number-ge-MOST_NODES-clause-after : goal.returns-then-number-ge-MOST_NODES-clause-after
-returns-then-number-ge-MOST_NODES-clause-after c =
+pub returns-then-number-ge-MOST_ALLOCATORS-clause-after : goal.returns-then-number-ge-MOST_ALLOCATORS-clause-after
+returns-then-number-ge-MOST_ALLOCATORS-clause-after c =
     let f = c.self.inside in
-    subst (λ (t : MeasuredTree). IsAfterCall t (child_result t.state c.args.parent c.args.reservation c.args.limit) (tree_with f.rows f.chunks (f.next + 1) f.drawn)) c.self.view_is (past_parts c).after
+    subst (λ (t : MeasuredTree). IsAfterCall t (child_result t.state c.args.parent c.args.reservation c.args.limit) (tree_with f.rows f.chunks (f.next + 1) f.drawn c.one_more-self-inside.result)) c.self.view_is ((past_parts c).after c.self.inside.calls c.one_more-self-inside.result)
 
 pub request-requires-clause-open : goal.request-requires-clause-open
 request-requires-clause-open c =
@@ -56,7 +56,7 @@ refused_parts c =
     let f = c.self.inside in
     let is_open' = ap (λ (t : MeasuredTree). is_open t.state c.args.parent.0) c.self.view_is ∙ sym c.is_open.ensures ∙ c.if-not-is_open.false in
     let answers = rw c.in-Err.is at c.request.ensures.answers in
-    reservation_refused f.rows c.request.new.self f.chunks f.next f.drawn c.args.parent c.args.reservation c.args.limit c.in-Err.full c.self.invariant.lawful c.self.invariant.numbers is_open' c.if-reservation-limit.false c.if-number-ge-MOST_NODES.false
+    reservation_refused f.rows c.request.new.self f.chunks f.next f.drawn c.args.parent c.args.reservation c.args.limit c.in-Err.full c.self.invariant.lawful c.self.invariant.numbers is_open' c.if-reservation-limit.false c.if-number-ge-MOST_ALLOCATORS.false
     c.request.ensures.kept (answers (charges_of f.chunks) c.self.invariant.numbers.held)
 
 pub invariant_of-self-in-Err : goal.invariant_of-self-in-Err
@@ -68,7 +68,7 @@ returns-in-Err-clause-answer c = subst (λ (t : MeasuredTree). Err (NoRoom c.in-
 pub returns-in-Err-clause-after : goal.returns-in-Err-clause-after
 returns-in-Err-clause-after c =
     let f = c.self.inside in
-    subst (λ (t : MeasuredTree). IsAfterCall t (child_result t.state c.args.parent c.args.reservation c.args.limit) (tree_with c.request.new.self f.chunks (f.next + 1) f.drawn)) c.self.view_is (refused_parts c).after
+    subst (λ (t : MeasuredTree). IsAfterCall t (child_result t.state c.args.parent c.args.reservation c.args.limit) (tree_with c.request.new.self f.chunks (f.next + 1) f.drawn c.one_more-self-inside.result)) c.self.view_is ((refused_parts c).after c.self.inside.calls c.one_more-self-inside.result)
 
 pub add_use-requires-clause-made : goal.add_use-requires-clause-made
 add_use-requires-clause-made c =
@@ -91,7 +91,7 @@ made_parts c =
     let answers = rw c.in_default.is at c.request.ensures.answers in
     let uses = rw (c.put.ensures, c.child.ensures) at c.add_use.ensures.uses in
     child_was_made f.rows c.request.new.self c.add_use.new.self f.chunks f.next f.drawn c.args.parent c.args.reservation c.args.limit c.self.invariant.lawful c.self.invariant.numbers is_open' c.if-reservation-limit.false c.requires.reservation c.requires.limit
-    c.if-number-ge-MOST_NODES.false c.self.invariant.places c.request.ensures.kept (answers (charges_of f.chunks) c.self.invariant.numbers.held) uses
+    c.if-number-ge-MOST_ALLOCATORS.false c.self.invariant.places c.request.ensures.kept (answers (charges_of f.chunks) c.self.invariant.numbers.held) uses
 
 pub invariant_of-self-2 : goal.invariant_of-self-2
 invariant_of-self-2 c = record { lawful = (made_parts c).lawful; numbers = (made_parts c).numbers; places = (made_parts c).places ∙ c.self.invariant.places }
@@ -102,4 +102,4 @@ returns-clause-answer c = subst (λ (t : MeasuredTree). Ok (record { 0 = c.self.
 pub returns-clause-after : goal.returns-clause-after
 returns-clause-after c =
     let f = c.self.inside in
-    subst (λ (t : MeasuredTree). IsAfterCall t (child_result t.state c.args.parent c.args.reservation c.args.limit) (tree_with c.add_use.new.self f.chunks (f.next + 1) f.drawn)) c.self.view_is (made_parts c).after
+    subst (λ (t : MeasuredTree). IsAfterCall t (child_result t.state c.args.parent c.args.reservation c.args.limit) (tree_with c.add_use.new.self f.chunks (f.next + 1) f.drawn c.one_more-self-inside.result)) c.self.view_is ((made_parts c).after c.self.inside.calls c.one_more-self-inside.result)

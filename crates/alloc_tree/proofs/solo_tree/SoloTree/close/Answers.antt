@@ -118,7 +118,7 @@ returns-in-Some-parent-clause-answer c = subst (λ (t : MeasuredTree). Ok tt ≡
 pub returns-in-Some-parent-clause-after : goal.returns-in-Some-parent-clause-after
 returns-in-Some-parent-clause-after c =
     let f = c.self.inside in
-    subst (λ (t : MeasuredTree). IsAfterCall t (close_result t.state c.args.at) (tree_with c.drop_use.new.self f.chunks f.next f.drawn)) c.self.view_is (child_parts c).after
+    subst (λ (t : MeasuredTree). IsAfterCall t (close_result t.state c.args.at) (tree_with c.drop_use.new.self f.chunks f.next f.drawn c.self.inside.calls)) c.self.view_is ((child_parts c).after c.self.inside.calls c.self.inside.calls)
 
 root_parts : (c : goal.In_default-parent) → IsClosed c.self.inside.rows c.self.inside.chunks c.self.inside.next c.self.inside.drawn c.args.at c.put.new.self
 root_parts c =
@@ -141,4 +141,4 @@ returns-in_default-parent-clause-answer c = subst (λ (t : MeasuredTree). Ok tt 
 pub returns-in_default-parent-clause-after : goal.returns-in_default-parent-clause-after
 returns-in_default-parent-clause-after c =
     let f = c.self.inside in
-    subst (λ (t : MeasuredTree). IsAfterCall t (close_result t.state c.args.at) (tree_with c.put.new.self f.chunks f.next f.drawn)) c.self.view_is (root_parts c).after
+    subst (λ (t : MeasuredTree). IsAfterCall t (close_result t.state c.args.at) (tree_with c.put.new.self f.chunks f.next f.drawn c.self.inside.calls)) c.self.view_is ((root_parts c).after c.self.inside.calls c.self.inside.calls)

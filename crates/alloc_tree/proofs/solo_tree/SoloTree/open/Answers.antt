@@ -1,4 +1,4 @@
-use Rattle.std.proofs.Common.{ap, length}
+use Rattle.std.proofs.Common.{ap, length, refl}
 use Rattle.alloc_tree.proofs.OpeningLemmas.{opened_sound, opened_is, opened_peaks}
 use Rattle.alloc_tree.proofs.solo_tree.SoloTree.open.Goals as goal
 
@@ -12,5 +12,6 @@ returns c = record {
   opened = record {
     state = opened_is c.args.root_limit c.in-Ok.rows c.new.result c.in-Ok.ensures c.new.ensures;
     peaks = λ n. opened_peaks c.args.root_limit c.in-Ok.rows n c.in-Ok.ensures;
+    calls = refl;
   };
 }

@@ -21,7 +21,7 @@ pub returns-in_default-clause-after : goal.returns-in_default-clause-after
 returns-in_default-clause-after c =
     let f = c.self.inside in
     let parts = refused_done f.rows f.chunks c.release.new.self f.next f.drawn c.args.of c.self.invariant.lawful c.self.invariant.numbers c.in_default.ensures.after c.release.ensures.left in
-    subst (λ (t : MeasuredTree). IsAfterCall t (release_result t.state c.args.of) (tree_with f.rows c.release.new.self f.next f.drawn)) c.self.view_is parts.after
+    subst (λ (t : MeasuredTree). IsAfterCall t (release_result t.state c.args.of) (tree_with f.rows c.release.new.self f.next f.drawn c.self.inside.calls)) c.self.view_is (parts.after c.self.inside.calls c.self.inside.calls)
 
 -- the ledger has references left
 same : (c : goal.In-Same) → IsDone c.self.inside.rows c.self.inside.chunks c.self.inside.next c.self.inside.drawn (release_result (state_with c.self.inside.rows c.self.inside.chunks c.self.inside.next c.self.inside.drawn) c.args.of) c.self.inside.rows c.release.new.self (Ok false)
@@ -38,7 +38,7 @@ returns-in-Same-clause-answer c = (same c).told ∙ ap (λ (t : MeasuredTree). (
 
 pub returns-in-Same-clause-after : goal.returns-in-Same-clause-after
 returns-in-Same-clause-after c =
-    subst (λ (t : MeasuredTree). IsAfterCall t (release_result t.state c.args.of) (tree_with c.self.inside.rows c.release.new.self c.self.inside.next c.self.inside.drawn)) c.self.view_is (same c).after
+    subst (λ (t : MeasuredTree). IsAfterCall t (release_result t.state c.args.of) (tree_with c.self.inside.rows c.release.new.self c.self.inside.next c.self.inside.drawn c.self.inside.calls)) c.self.view_is ((same c).after c.self.inside.calls c.self.inside.calls)
 
 -- it is gone
 pub drop_use-requires-clause-made : goal.drop_use-requires-clause-made
@@ -67,7 +67,7 @@ returns-in-Gone-clause-answer c = (gone c).told ∙ ap (λ (t : MeasuredTree). (
 
 pub returns-in-Gone-clause-after : goal.returns-in-Gone-clause-after
 returns-in-Gone-clause-after c =
-    subst (λ (t : MeasuredTree). IsAfterCall t (release_result t.state c.args.of) (tree_with c.drop_use.new.self c.release.new.self c.self.inside.next c.self.inside.drawn)) c.self.view_is (gone c).after
+    subst (λ (t : MeasuredTree). IsAfterCall t (release_result t.state c.args.of) (tree_with c.drop_use.new.self c.release.new.self c.self.inside.next c.self.inside.drawn c.self.inside.calls)) c.self.view_is ((gone c).after c.self.inside.calls c.self.inside.calls)
 
 -- it is gone, and the charge moves
 pub move_charge-requires-clause-from : goal.move_charge-requires-clause-from
@@ -121,7 +121,7 @@ returns-in-Moved-clause-answer c = (moved c).told ∙ ap (λ (t : MeasuredTree).
 
 pub returns-in-Moved-clause-after : goal.returns-in-Moved-clause-after
 returns-in-Moved-clause-after c =
-    subst (λ (t : MeasuredTree). IsAfterCall t (release_result t.state c.args.of) (tree_with c.drop_use-in-Moved.new.self c.release.new.self c.self.inside.next c.self.inside.drawn)) c.self.view_is (moved c).after
+    subst (λ (t : MeasuredTree). IsAfterCall t (release_result t.state c.args.of) (tree_with c.drop_use-in-Moved.new.self c.release.new.self c.self.inside.next c.self.inside.drawn c.self.inside.calls)) c.self.view_is ((moved c).after c.self.inside.calls c.self.inside.calls)
 
 -- it was the last one
 pub release-requires-in-Freed-clause-open : goal.release-requires-in-Freed-clause-open
@@ -163,4 +163,4 @@ returns-in-Freed-clause-answer c = (freed c).told ∙ ap (λ (t : MeasuredTree).
 
 pub returns-in-Freed-clause-after : goal.returns-in-Freed-clause-after
 returns-in-Freed-clause-after c =
-    subst (λ (t : MeasuredTree). IsAfterCall t (release_result t.state c.args.of) (tree_with c.drop_use-in-Freed.new.self c.release.new.self c.self.inside.next c.self.inside.drawn)) c.self.view_is (freed c).after
+    subst (λ (t : MeasuredTree). IsAfterCall t (release_result t.state c.args.of) (tree_with c.drop_use-in-Freed.new.self c.release.new.self c.self.inside.next c.self.inside.drawn c.self.inside.calls)) c.self.view_is ((freed c).after c.self.inside.calls c.self.inside.calls)

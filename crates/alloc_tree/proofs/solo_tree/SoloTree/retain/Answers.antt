@@ -49,19 +49,19 @@ again c =
     let f = c.self.inside in
     let is_open' = ap (λ (t : MeasuredTree). is_open t.state c.args.target.0) c.self.view_is ∙ sym c.is_open.ensures ∙ c.if-not-is_open.false in
     retained_again f.rows f.chunks c.retain.new.self f.next f.drawn c.args.of c.args.target (chunk_of (c.args.of.chunk, c.in-Some.ledgers.now)) c.self.invariant.lawful c.self.invariant.numbers (sym c.in-Some.ensures) is_open'
-    (omega (arith, c.count-count.ensures.value, c.if-count-gt0.true)) c.in-Ok.ensures.retained
+    (omega (arith, c.count-count.ensures, c.if-count-gt0.true)) c.in-Ok.ensures.retained
 
 pub invariant_of-self-then-count-gt0 : goal.invariant_of-self-then-count-gt0
 invariant_of-self-then-count-gt0 c = record { lawful = (again c).lawful; numbers = (again c).numbers; places = (again c).places ∙ c.self.invariant.places }
 
 pub returns-then-count-gt0-clause-answer : goal.returns-then-count-gt0-clause-answer
 returns-then-count-gt0-clause-answer c = λ _.
-    reference_is (chunk_of (c.args.of.chunk, c.in-Some.ledgers.now)) c.args.target _ c.size.ensures.value ∙ (again c).told ∙ ap (λ (t : MeasuredTree). (retain_result t.state c.args.of c.args.target).answer) c.self.view_is
+    reference_is (chunk_of (c.args.of.chunk, c.in-Some.ledgers.now)) c.args.target _ c.size.ensures ∙ (again c).told ∙ ap (λ (t : MeasuredTree). (retain_result t.state c.args.of c.args.target).answer) c.self.view_is
 
 pub returns-then-count-gt0-clause-after : goal.returns-then-count-gt0-clause-after
 returns-then-count-gt0-clause-after c = λ _.
     let f = c.self.inside in
-    subst (λ (t : MeasuredTree). IsAfterCall t (retain_result t.state c.args.of c.args.target) (tree_with f.rows c.retain.new.self f.next f.drawn)) c.self.view_is (again c).after
+    subst (λ (t : MeasuredTree). IsAfterCall t (retain_result t.state c.args.of c.args.target) (tree_with f.rows c.retain.new.self f.next f.drawn c.one_more-self-inside.result)) c.self.view_is ((again c).after c.self.inside.calls c.one_more-self-inside.result)
 
 -- it had none
 pub add_use-requires-clause-made : goal.add_use-requires-clause-made
@@ -82,16 +82,16 @@ anew c =
     let f = c.self.inside in
     let is_open' = ap (λ (t : MeasuredTree). is_open t.state c.args.target.0) c.self.view_is ∙ sym c.is_open.ensures ∙ c.if-not-is_open.false in
     retained_anew f.rows c.add_use.new.self f.chunks c.retain.new.self f.next f.drawn c.args.of c.args.target (chunk_of (c.args.of.chunk, c.in-Some.ledgers.now)) c.self.invariant.lawful c.self.invariant.numbers (sym c.in-Some.ensures) is_open'
-    (omega (arith, c.count-count.ensures.value, c.if-count-gt0.false)) c.in-Ok.ensures.retained c.add_use.ensures.uses
+    (omega (arith, c.count-count.ensures, c.if-count-gt0.false)) c.in-Ok.ensures.retained c.add_use.ensures.uses
 
 pub invariant_of-self-2 : goal.invariant_of-self-2
 invariant_of-self-2 c = record { lawful = (anew c).lawful; numbers = (anew c).numbers; places = (anew c).places ∙ c.self.invariant.places }
 
 pub returns-clause-answer : goal.returns-clause-answer
 returns-clause-answer c = λ _.
-    reference_is (chunk_of (c.args.of.chunk, c.in-Some.ledgers.now)) c.args.target _ c.size.ensures.value ∙ (anew c).told ∙ ap (λ (t : MeasuredTree). (retain_result t.state c.args.of c.args.target).answer) c.self.view_is
+    reference_is (chunk_of (c.args.of.chunk, c.in-Some.ledgers.now)) c.args.target _ c.size.ensures ∙ (anew c).told ∙ ap (λ (t : MeasuredTree). (retain_result t.state c.args.of c.args.target).answer) c.self.view_is
 
 pub returns-clause-after : goal.returns-clause-after
 returns-clause-after c = λ _.
     let f = c.self.inside in
-    subst (λ (t : MeasuredTree). IsAfterCall t (retain_result t.state c.args.of c.args.target) (tree_with c.add_use.new.self c.retain.new.self f.next f.drawn)) c.self.view_is (anew c).after
+    subst (λ (t : MeasuredTree). IsAfterCall t (retain_result t.state c.args.of c.args.target) (tree_with c.add_use.new.self c.retain.new.self f.next f.drawn c.one_more-self-inside.result)) c.self.view_is ((anew c).after c.self.inside.calls c.one_more-self-inside.result)
