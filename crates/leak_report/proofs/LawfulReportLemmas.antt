@@ -14,10 +14,12 @@ use Rattle.mem_model.specs.LawfulState.{IsLawfulState}
 use Rattle.mem_model.specs.Reservation.{counted_at_parent}
 use Rattle.mem_model.specs.TreeNode.{IsAllocatorTree, IsParentOf, HasParentUnlessRoot, is_open_child, is_number}
 use Rattle.mem_model.specs.TreeState.{TreeState}
-use Rattle.leak_report.specs.LawfulReport.{IsLawful, IsLawfulReport, node_of, nodes_of}
+use Rattle.leak_report.specs.LawfulReport.{IsLawful, IsLawfulReport, IsPrintedName, node_of, nodes_of}
+use Rattle.leak_report.specs.PrintableTree.{IsPrintable}
 use Rattle.leak_report.specs.Report.{PrintedAllocator, open_nodes, printed_allocator, printed_text, report_of}
 use Rattle.leak_report.specs.ReportText.{chunks_text, report_text}
 use Rattle.leak_report.proofs.PrintLemmas.{printed_nodes, tree_text-printed}
+use Rattle.leak_report.proofs.PrintableLemmas.{NumbersFit-report_of, name_in-printed}
 
 -- an open allocator is printed as the node that it is
 node_of-printed : (names : List (List (List ℕ × AllocId))) (peaks : ℕ → ℕ) (state : TreeState) (e : TreeNode) → e.closed ≡ false → node_of (printed_allocator names peaks state e) ≡ e
@@ -90,18 +92,24 @@ is_printed-open names peaks state (e ∷ nodes) n =
       | inr closed ↦ rw (closed, and_right (e.number.0 == n) false refl) rest
     ]
 
--- the report of a lawful tree is lawful
-pub IsLawful-report_of : (names : List (List (List ℕ × AllocId))) (peaks : ℕ → ℕ) (state : TreeState) → IsLawfulState state → IsLawful (report_of names peaks state)
-IsLawful-report_of names peaks state lawful =
+-- the report of a lawful tree is lawful, where it is printed with names and numbers that fit
+pub IsLawful-report_of : (names : List (List (List ℕ × AllocId))) (peaks : ℕ → ℕ) (state : TreeState) → IsLawfulState state → IsPrintable names peaks state → IsLawful (report_of names peaks state)
+IsLawful-report_of names peaks state lawful printable =
     let report = report_of names peaks state in
     let nodes : nodes_of report ≡ open_nodes state.nodes = nodes_of-printed names peaks state state.nodes in
     let charges = charges_of state.chunks in
     record {
+      names = All-map (λ (printed : PrintedAllocator). IsPrintedName printed.name) (printed_allocator names peaks state) (open_nodes state.nodes)
+          (λ k d within. name_in-printed names (get_or (open_nodes state.nodes) k d).number.0 printable.well_formed);
+      numbers = NumbersFit-report_of names peaks state lawful printable;
       tree = subst IsAllocatorTree (sym nodes) (IsAllocatorTree-open state.nodes lawful.tree);
       held = All-map (λ (printed : PrintedAllocator). printed.held ≡ held_of (nodes_of report) charges printed.number.0) (printed_allocator names peaks state) (open_nodes state.nodes)
           (λ k d within. let n = (get_or (open_nodes state.nodes) k d).number.0 in sym (ap (λ xs. held_of xs charges n) nodes ∙ held_of-open state.nodes charges n));
       in_order = lawful.in_order;
       chunks = λ k d within. let chunk = lawful.chunks k d within in record {
+        some = chunk.some;
+        some_bytes = chunk.some_bytes;
+        few_bytes = chunk.few_bytes;
         in_order = chunk.in_order;
         owner = chunk.owner;
         open_ = λ i e inside. is_printed-open names peaks state state.nodes (get_or (get_or state.chunks k d).ledgers i e).at.0 ∙ chunk.open_ i e inside;
@@ -114,6 +122,6 @@ pub report_text-printed : (names : List (List (List ℕ × AllocId))) (peaks : �
 report_text-printed names peaks state tree = ap (λ xs. xs ++ chunks_text state.chunks) (tree_text-printed names peaks state tree)
 
 -- so what its text says is lawful
-pub IsLawfulReport-report_text : (names : List (List (List ℕ × AllocId))) (peaks : ℕ → ℕ) (state : TreeState) → IsLawfulState state → IsLawfulReport (report_text names peaks state)
-IsLawfulReport-report_text names peaks state lawful =
-    (report_of names peaks state, IsLawful-report_of names peaks state lawful, report_text-printed names peaks state lawful.tree)
+pub IsLawfulReport-report_text : (names : List (List (List ℕ × AllocId))) (peaks : ℕ → ℕ) (state : TreeState) → IsLawfulState state → IsPrintable names peaks state → IsLawfulReport (report_text names peaks state)
+IsLawfulReport-report_text names peaks state lawful printable =
+    (report_of names peaks state, IsLawful-report_of names peaks state lawful printable, report_text-printed names peaks state lawful.tree)

@@ -1,12 +1,16 @@
 -- The lemmas of this crate.
+pub mod FrontLemmas
 pub mod NodesLemmas
 pub mod TextLemmas
 pub mod PrintLemmas
+pub mod PrintableLemmas
 pub mod LawfulReportLemmas
-pub mod ReadLemmas
-pub mod ReadLineLemmas
+pub mod WordLemmas
+pub mod LineLemmas
+pub mod TextLinesLemmas
 pub mod ParentLemmas
 pub mod MemberLemmas
+pub mod OrderLemmas
 pub mod SameListLemmas
-pub mod SameReportLemmas
+pub mod ReadReportLemmas
 pub mod WriteLemmas

@@ -29,7 +29,7 @@ of_cases x (y ∷ xs) ys (inl same) = inl (inl same)
 of_cases x (y ∷ xs) ys (inr of) = elim (of_cases x xs ys of) [ inl first ↦ inl (inr first) | inr second ↦ inr second ]
 
 -- what holds of all holds of it
-All-of : (P : PrintedAllocator → Type 0) (x : PrintedAllocator) (xs : List PrintedAllocator) → All P xs → IsOf x xs → P x
+pub All-of : (P : PrintedAllocator → Type 0) (x : PrintedAllocator) (xs : List PrintedAllocator) → All P xs → IsOf x xs → P x
 All-of P x [] all' of = absurd of
 All-of P x (y ∷ xs) all' (inl same) = subst P (sym same) (All-head P y xs all')
 All-of P x (y ∷ xs) all' (inr of) = All-of P x xs (All-tail P y xs all') of

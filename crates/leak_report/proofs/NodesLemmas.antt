@@ -1,14 +1,15 @@
 -- The allocators of a tree, number by number.
-use Rattle.std.proofs.Common.{◌≡◌, ℕ, suc, ◌+◌, ◌<◌, ◌≤◌, min, List, [], ◌∷◌, ◌++◌, map, filter, get_or, true, false, ltb, eqb, All, Option, Some, None, refl, sym, ap, ◌∙◌, arith, inl, inr}
+use Rattle.std.proofs.Common.{◌≡◌, ℕ, zero, suc, ◌+◌, ◌^◌, ◌<◌, ◌≤◌, min, List, [], ◌∷◌, ◌++◌, map, filter, get_or, true, false, ltb, eqb, All, Option, Some, None, refl, sym, ap, ◌∙◌, arith, inl, inr}
 use Rattle.std.specs.List.{find}
 use Rattle.std.specs.Option.{option_map, option_to_list}
 use Rattle.std.proofs.lemmas.Bool.{cases_lt}
 use Rattle.std.proofs.lemmas.Bool.Decides.{nat_tests}
-use Rattle.std.proofs.lemmas.List.Elements.{All-head, All-tail}
+use Rattle.std.proofs.lemmas.List.Elements.{All-append, All-head, All-tail}
 use Rattle.std.proofs.lemmas.List.{map-append}
 use Rattle.mem_num.specs.declared.placed.Placed.{Placed}
 use Rattle.mem_model.specs.declared.tree_node.TreeNode.{TreeNode}
 use Rattle.mem_model.specs.LawfulState.{IsLawfulState, IsWithinBounds}
+use Rattle.mem_model.specs.MeasuredTree.{placed_node}
 use Rattle.mem_model.specs.TreeState.{TreeState}
 use Rattle.mem_model.proofs.HeldLemmas.{Rises}
 use Rattle.mem_model.proofs.RequestLemmas.{filter_none}
@@ -87,3 +88,24 @@ placed_below-more f n nodes found rises is =
 -- the numbers of a lawful tree are below the next one, and below the most that there may be
 pub nodes_below-end : (state : TreeState) (n : ℕ) → IsLawfulState state → min state.next 64 ≤ n → nodes_below n state.nodes ≡ state.nodes
 nodes_below-end state n lawful reached = nodes_below-all n state.nodes (λ k d within. let bounds : IsWithinBounds state.next (get_or state.nodes k d) = lawful.nodes k d within in omega (arith, bounds.given, bounds.few, reached))
+
+-- peaks that 64 bits hold
+abbrev pub HasShortPeaks : List Placed → Type 0
+HasShortPeaks placed = All (λ node. node.node.peak < 2 ^ 64) placed
+
+-- one alone
+one_short : (node : Placed) → node.node.peak < 2 ^ 64 → HasShortPeaks (node ∷ [])
+one_short node peak zero d within = peak
+one_short node peak (suc k) d within = absurd (omega arith)
+
+-- such are those with one node more
+pub short_peaks_more : (placed : List Placed) (node : Placed) → HasShortPeaks placed → node.node.peak < 2 ^ 64 → HasShortPeaks (placed ++ node ∷ [])
+short_peaks_more placed node peaks peak =
+    All-append (λ (p : Placed). p.node.peak < 2 ^ 64) placed (node ∷ []) peaks (one_short node peak)
+
+-- and so are those of the nodes of a tree
+pub short_peaks_from : (peaks : ℕ → ℕ) (state : TreeState) (nodes : List TreeNode) → HasShortPeaks (map (placed_node peaks state) nodes) → All (λ node. peaks node.number.0 < 2 ^ 64) nodes
+short_peaks_from peaks state [] short k d within = absurd (omega arith)
+short_peaks_from peaks state (node ∷ nodes) short zero d within = All-head (λ (p : Placed). p.node.peak < 2 ^ 64) (placed_node peaks state node) (map (placed_node peaks state) nodes) short
+short_peaks_from peaks state (node ∷ nodes) short (suc k) d within =
+    short_peaks_from peaks state nodes (All-tail (λ (p : Placed). p.node.peak < 2 ^ 64) (placed_node peaks state node) (map (placed_node peaks state) nodes) short) k d (omega arith)

@@ -1,8 +1,10 @@
 -- The lines of a tree tell whose child each allocator is: the parent's line is the last one before that is one level higher.
-use Rattle.std.proofs.Common.{◌≡◌, ℕ, ◌+◌, ◌≤◌, ◌==◌, List, [], ◌∷◌, ◌++◌, true, false, if◌then◌else◌, Option, Some, None, is_none, refl, sym, ap, ◌∙◌, arith, inl, inr}
+use Rattle.std.proofs.Common.{◌≡◌, ℕ, ◌+◌, ◌≤◌, ◌==◌, List, [], ◌∷◌, ◌++◌, true, false, if◌then◌else◌, fold, Option, Some, None, is_none, refl, sym, ap, ◌∙◌, arith, inl, inr}
 use Rattle.std.proofs.lemmas.Bool.{cases_Bool, eqb-true, eq-eqb, ne_eqb, cond-true, cond-false, true≢false}
+use Rattle.std.proofs.lemmas.List.Sums.{fold-append}
 use Rattle.mem_num.specs.declared.alloc_id.AllocId.{AllocId}
 use Rattle.mem_model.specs.TreeNode.{is_number}
+use Rattle.leak_report.specs.ReadReport.{allocator_of_line, parent_after, with_allocator, with_lines}
 use Rattle.leak_report.specs.Report.{PrintedAllocator, TreeLine, line_of, lines_of, has_parent}
 
 -- the allocators with this parent, each with those below it, in the order of their lines
@@ -19,18 +21,6 @@ with_level levels line depth = if depth == line.depth + 1 then Some line.number 
 abbrev levels_after : (ℕ → Option AllocId) → List TreeLine → ℕ → Option AllocId
 levels_after levels [] = levels
 levels_after levels (line ∷ lines) = levels_after (with_level levels line) lines
-
--- the allocator of a line, with this parent
-abbrev allocator_of_line : TreeLine → Option AllocId → PrintedAllocator
-allocator_of_line line parent = record {
-  number = line.number;
-  parent = parent;
-  name = line.name;
-  reservation = line.reservation;
-  held = line.held;
-  peak = line.peak;
-  limit = line.limit;
-}
 
 -- the allocators of some lines, by the parent at each depth
 abbrev read_parents : (ℕ → Option AllocId) → List TreeLine → List PrintedAllocator
@@ -113,8 +103,20 @@ read_parents-lines_of (x ∷ later) depth parent levels here = elim (cases_Bool 
       ap (read_parents levels) (lines_of-other x later depth parent other) ∙ read_parents-lines_of later depth parent levels here ∙ sym ordered)
 ]
 
--- so the same lines are of the same allocators
-pub same_line_order : (xs ys : List PrintedAllocator) → lines_of xs 0 None ≡ lines_of ys 0 None → in_line_order xs None ≡ in_line_order ys None
-same_line_order xs ys e =
-    let levels : ℕ → Option AllocId = λ depth. None in
-    sym (read_parents-lines_of xs 0 None levels refl) ∙ ap (read_parents levels) e ∙ read_parents-lines_of ys 0 None levels refl
+-- a line more is the parent of lines one level deeper
+parent_after-more : (levels : List (ℕ × AllocId)) (line : TreeLine) (depth : ℕ) → parent_after (levels ++ (line.depth, line.number) ∷ []) depth ≡ with_level (parent_after levels) line depth
+parent_after-more levels line depth =
+    fold-append (λ (parent : Option AllocId) (level : ℕ × AllocId). if depth == level.0 + 1 then Some level.1 else parent) None levels ((line.depth, line.number) ∷ [])
+
+-- the allocators of some lines are added one by one
+with_lines-read : (levels : List (ℕ × AllocId)) (allocators : List PrintedAllocator) (lines : List TreeLine)
+    → with_lines levels allocators lines ≡ fold with_allocator allocators (read_parents (parent_after levels) lines)
+with_lines-read levels allocators [] = refl
+with_lines-read levels allocators (line ∷ lines) =
+    let more : parent_after (levels ++ (line.depth, line.number) ∷ []) ≡ with_level (parent_after levels) line = λ i depth. parent_after-more levels line depth i in
+    let added = with_allocator allocators (allocator_of_line line (parent_after levels line.depth)) in
+    with_lines-read (levels ++ (line.depth, line.number) ∷ []) added lines ∙ ap (λ f. fold with_allocator added (read_parents f lines)) more
+
+-- so the lines of allocators are read as these, added one by one
+pub with_lines-lines_of : (xs : List PrintedAllocator) → with_lines [] [] (lines_of xs 0 None) ≡ fold with_allocator [] (in_line_order xs None)
+with_lines-lines_of xs = with_lines-read [] [] (lines_of xs 0 None) ∙ ap (fold with_allocator []) (read_parents-lines_of xs 0 None (parent_after []) refl)

@@ -20,18 +20,18 @@ abbrev pub printed_nodes : List (List (List ℕ × AllocId)) → (ℕ → ℕ) �
 printed_nodes names peaks state nodes = map (printed_allocator names peaks state) (open_nodes nodes)
 
 -- the lines of those with this parent, as text
-abbrev lines_text : List PrintedAllocator → ℕ → Option AllocId → List ℕ
-lines_text printed depth parent = flat_map tree_line_text (lines_of printed depth parent)
+abbrev flat_lines : List PrintedAllocator → ℕ → Option AllocId → List ℕ
+flat_lines printed depth parent = flat_map tree_line_text (lines_of printed depth parent)
 
 -- the lines of a child, of those below it, and of the others, as text
-lines_text-child : (a : PrintedAllocator) (later : List PrintedAllocator) (depth : ℕ) (parent : Option AllocId) → has_parent parent a ≡ true
-    → lines_text (a ∷ later) depth parent ≡ (tree_line_text (line_of depth a) ++ lines_text later (depth + 1) (Some a.number)) ++ lines_text later depth parent
-lines_text-child a later depth parent child =
+flat_lines-child : (a : PrintedAllocator) (later : List PrintedAllocator) (depth : ℕ) (parent : Option AllocId) → has_parent parent a ≡ true
+    → flat_lines (a ∷ later) depth parent ≡ (tree_line_text (line_of depth a) ++ flat_lines later (depth + 1) (Some a.number)) ++ flat_lines later depth parent
+flat_lines-child a later depth parent child =
     rw child (flat_map-append tree_line_text (line_of depth a ∷ lines_of later (depth + 1) (Some a.number)) (lines_of later depth parent))
 
 -- the lines under an allocator are those of its open children
 lines_under-printed : (names : List (List (List ℕ × AllocId))) (peaks : ℕ → ℕ) (state : TreeState) (nodes : List TreeNode) (depth : ℕ) (at : AllocId) → IsOlderTree nodes
-    → lines_under names (map (placed_node peaks state) nodes) depth at.0 ≡ lines_text (printed_nodes names peaks state nodes) depth (Some at)
+    → lines_under names (map (placed_node peaks state) nodes) depth at.0 ≡ flat_lines (printed_nodes names peaks state nodes) depth (Some at)
 lines_under-printed names peaks state [] depth at older = refl
 lines_under-printed names peaks state (e ∷ nodes) depth at older =
     let older_e : HasOlderParent e = All-head HasOlderParent e nodes older in
@@ -47,8 +47,8 @@ lines_under-printed names peaks state (e ∷ nodes) depth at older =
         | inl child ↦ (
             let is : is_open_child at.0 e ≡ true = and_from (is_number at.0 e.parent) (not e.closed) child (not_from_false e.closed open_) in
             rw (same ∙ is, open_) (ap (λ xs. (tree_line_text (line_of depth p) ++ xs) ++ lines_under names (map (placed_node peaks state) nodes) depth at.0) below
-            ∙ ap (λ ys. (tree_line_text (line_of depth p) ++ lines_text later (depth + 1) (Some e.number)) ++ ys) rest
-            ∙ sym (lines_text-child p later depth (Some at) child)))
+            ∙ ap (λ ys. (tree_line_text (line_of depth p) ++ flat_lines later (depth + 1) (Some e.number)) ++ ys) rest
+            ∙ sym (flat_lines-child p later depth (Some at) child)))
         | inr other ↦ rw (same ∙ and_left (is_number at.0 e.parent) (not e.closed) other, open_, other) rest
       ]
     ]
@@ -94,7 +94,7 @@ behind_root e rest tree k d within =
 
 -- the text of the root and of the lines below it is that of the lines from the root on
 rooted_text : (names : List (List (List ℕ × AllocId))) (peaks : ℕ → ℕ) (state : TreeState) (nodes : List TreeNode) → IsAllocatorTree nodes
-    → placed_text names (map (placed_node peaks state) nodes) ≡ lines_text (printed_nodes names peaks state nodes) 0 None
+    → placed_text names (map (placed_node peaks state) nodes) ≡ flat_lines (printed_nodes names peaks state nodes) 0 None
 rooted_text names peaks state [] tree = refl
 rooted_text names peaks state (e ∷ rest) tree =
     let is_root : e.number.0 ≡ 0 = first_is_root e rest tree in
@@ -105,19 +105,19 @@ rooted_text names peaks state (e ∷ rest) tree =
     let no_child : is_open_child e.number.0 e ≡ false = rw none refl in
     let others : All (λ x. is_none x.parent ≡ false) later = All-map (λ x. is_none x.parent ≡ false) (printed_allocator names peaks state) (open_nodes rest)
     (All-filter (λ node. not node.closed) (λ x. is_none x.parent ≡ false) rest (behind_root e rest tree)) in
-    let others_text : lines_text later 0 None ≡ [] = ap (flat_map tree_line_text) (no_root_lines later 0 others) in
+    let others_text : flat_lines later 0 None ≡ [] = ap (flat_map tree_line_text) (no_root_lines later 0 others) in
     let below = lines_under-printed names peaks state rest 1 e.number (All-tail HasOlderParent e rest older) in
     let same = child_same peaks state e.number.0 e (All-head HasOlderParent e rest older) in
     elim (cases_Bool e.closed) [
       | inl closed ↦ rw (eq-eqb e.number.0 0 is_root, closed) (sym others_text)
       | inr open_ ↦ rw (eq-eqb e.number.0 0 is_root, same ∙ no_child, open_) (
           ap (λ xs. tree_line_text (line_of 0 p) ++ xs) below
-          ∙ sym (append-nil (tree_line_text (line_of 0 p) ++ lines_text later 1 (Some e.number)))
-          ∙ ap (λ xs. (tree_line_text (line_of 0 p) ++ lines_text later 1 (Some e.number)) ++ xs) (sym others_text)
-          ∙ sym (lines_text-child p later 0 None (ap is_none none)))
+          ∙ sym (append-nil (tree_line_text (line_of 0 p) ++ flat_lines later 1 (Some e.number)))
+          ∙ ap (λ xs. (tree_line_text (line_of 0 p) ++ flat_lines later 1 (Some e.number)) ++ xs) (sym others_text)
+          ∙ sym (flat_lines-child p later 0 None (ap is_none none)))
     ]
 
 -- the text of a tree is that of the lines from the root on
 pub tree_text-printed : (names : List (List (List ℕ × AllocId))) (peaks : ℕ → ℕ) (state : TreeState) → IsAllocatorTree state.nodes
-    → tree_text names peaks state ≡ lines_text (printed_nodes names peaks state state.nodes) 0 None
+    → tree_text names peaks state ≡ flat_lines (printed_nodes names peaks state state.nodes) 0 None
 tree_text-printed names peaks state tree = rooted_text names peaks state state.nodes tree

@@ -1,5 +1,5 @@
 -- Lists of allocators in order of number are the same where they have the same lines.
-use Rattle.std.proofs.Common.{◌≡◌, ℕ, zero, suc, ◌+◌, ◌<◌, List, [], ◌∷◌, map, length, get_or, All, Any, Option, Some, None, refl, sym, ap, subst, ◌∙◌, arith, inl, inr}
+use Rattle.std.proofs.Common.{◌≡◌, ℕ, zero, suc, ◌+◌, ◌<◌, List, [], ◌∷◌, map, fold, length, get_or, All, Any, Option, Some, None, refl, sym, ap, subst, ◌∙◌, arith, inl, inr}
 use Rattle.std.specs.Option.{ForSome}
 use Rattle.std.proofs.lemmas.List.{get_or-map, length-map}
 use Rattle.std.proofs.lemmas.List.Elements.{All-head, All-tail}
@@ -7,9 +7,11 @@ use Rattle.mem_num.specs.declared.alloc_id.AllocId.{AllocId}
 use Rattle.mem_model.specs.declared.tree_node.TreeNode.{TreeNode}
 use Rattle.mem_model.specs.TreeNode.{IsAllocatorTree, IsParentOf}
 use Rattle.leak_report.specs.LawfulReport.{node_of}
+use Rattle.leak_report.specs.ReadReport.{with_allocator, with_lines}
 use Rattle.leak_report.specs.Report.{PrintedAllocator, lines_of}
 use Rattle.leak_report.proofs.MemberLemmas.{IsOf, NumbersRise, children_of, from_order, order_closed, rise_behind, rise_tail}
-use Rattle.leak_report.proofs.ParentLemmas.{in_line_order, same_line_order}
+use Rattle.leak_report.proofs.OrderLemmas.{added_from, added_new, added_rise, one_number}
+use Rattle.leak_report.proofs.ParentLemmas.{in_line_order, with_lines-lines_of}
 
 -- numbers of a tree rise
 rise_from_tree : (xs : List PrintedAllocator) → IsAllocatorTree (map node_of xs) → NumbersRise xs
@@ -76,10 +78,14 @@ same_list (x ∷ xs) (y ∷ ys) rise rise' there back =
     (λ z of. behind_first y x z ys xs rise' (sym same) of (back z (inr of))) in
     λ i. same i ∷ rest i
 
--- so two trees with the same lines are the same
-pub same_tree : (xs ys : List PrintedAllocator) → IsAllocatorTree (map node_of xs) → IsAllocatorTree (map node_of ys) → lines_of xs 0 None ≡ lines_of ys 0 None → xs ≡ ys
-same_tree xs ys tree tree' e =
-    let order : in_line_order xs None ≡ in_line_order ys None = same_line_order xs ys e in
-    same_list xs ys (rise_from_tree xs tree) (rise_from_tree ys tree')
-    (λ x of. from_order x ys None (subst (IsOf x) order (has_line (x.number.0 + 1) x xs tree of (omega arith))))
-    (λ y of. from_order y xs None (subst (IsOf y) (sym order) (has_line (y.number.0 + 1) y ys tree' of (omega arith))))
+-- the lines of a tree are read as its allocators
+pub with_lines-tree : (xs : List PrintedAllocator) → IsAllocatorTree (map node_of xs) → with_lines [] [] (lines_of xs 0 None) ≡ xs
+with_lines-tree xs tree =
+    let rise = rise_from_tree xs tree in
+    let order = in_line_order xs None in
+    let none_rise : NumbersRise [] = λ i j d less within. absurd (omega arith) in
+    let read : List PrintedAllocator = fold with_allocator [] order in
+    with_lines-lines_of xs
+    ∙ same_list read xs (added_rise [] order none_rise) rise
+    (λ x of. elim (added_from x [] order none_rise of) [ inl none ↦ absurd none | inr among ↦ from_order x xs None among ])
+    (λ x of. added_new x [] order none_rise (λ y none. absurd none) (λ y among. one_number xs x y rise of (from_order y xs None among)) (has_line (x.number.0 + 1) x xs tree of (omega arith)))

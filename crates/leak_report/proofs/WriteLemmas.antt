@@ -1,11 +1,15 @@
 -- Chunks are written one by one, and their references counted.
-use Rattle.std.proofs.Common.{◌≡◌, ℕ, suc, ◌+◌, ◌*◌, ◌^◌, ◌<◌, ◌≤◌, List, ◌∷◌, ◌++◌, get_or, All, AllPairs, sym, ap, subst, ◌∙◌, arith, append_assoc}
+use Rattle.std.proofs.Common.{◌≡◌, ℕ, zero, suc, ◌+◌, ◌*◌, ◌^◌, ◌<◌, ◌≤◌, List, ◌∷◌, ◌++◌, get_or, All, AllPairs, sym, ap, subst, ◌∙◌, arith, append_assoc}
 use Rattle.std.specs.List.{flat_map}
 use Rattle.std.proofs.lemmas.List.Elements.{All-head}
 use Rattle.std.proofs.lemmas.List.Sums.{sum_by-cons}
 use Rattle.mem_model.specs.Chunk.{Chunk}
 use Rattle.mem_model.specs.Ledgers.{total_of}
 use Rattle.leak_report.specs.ReportText.{chunk_text, references_of}
+
+-- a chunk with as many references as 64 bits count
+abbrev pub HasFew : Chunk → Type 0
+HasFew chunk = total_of chunk.ledgers < 2 ^ 64
 
 -- what was written of some chunks and counted, once these are left: those have greater numbers than there are chunks before them
 pub record IsWritten (before : List ℕ) (chunks : List Chunk) (text : List ℕ) (references : ℕ) (left : List Chunk) : Type 0 where
@@ -15,6 +19,8 @@ pub record IsWritten (before : List ℕ) (chunks : List Chunk) (text : List ℕ)
   pub few : references ≤ 2 ^ 58 * low
   pub above : All (λ chunk. low ≤ chunk.number) left
   pub in_order : AllPairs (λ older newer. older.number < newer.number) left
+  -- where those that are left have few references each, all have
+  pub few_each : All HasFew left → All HasFew chunks
 
 -- at first nothing is written, and all are left
 pub written_none : (before : List ℕ) (chunks left : List Chunk) → left ≡ chunks → AllPairs (λ older newer. older.number < newer.number) chunks → IsWritten before chunks before 0 left
@@ -25,7 +31,13 @@ written_none before chunks left same in_order = record {
   few = omega arith;
   above = λ k d within. omega arith;
   in_order = subst (AllPairs (λ older newer. older.number < newer.number)) (sym same) in_order;
+  few_each = subst (All HasFew) same;
 }
+
+-- the first has few, and so have those behind it
+few_cons : (chunk : Chunk) (left : List Chunk) → HasFew chunk → All HasFew left → All HasFew (chunk ∷ left)
+few_cons chunk left first later zero d within = first
+few_cons chunk left first later (suc k) d within = later k d (omega arith)
 
 -- the first of those left is written, and its references are counted
 pub written_more : (before : List ℕ) (chunks : List Chunk) (text text' : List ℕ) (references total : ℕ) (left left' : List Chunk) (chunk : Chunk) → IsWritten before chunks text references left
@@ -43,6 +55,7 @@ written_more before chunks text text' references total left left' chunk written 
       few = omega (arith, written.few, here, few);
       above = λ k d within. let behind : chunk.number < (get_or left' k d).number = rises 0 (suc k) d (omega arith) (omega arith) in omega arith;
       in_order = λ i j d less within. rises (suc i) (suc j) d (omega arith) (omega arith);
+      few_each = λ later. written.few_each (subst (All HasFew) (sym same) (few_cons chunk left' (omega (arith, counted, few)) later));
     }
 
 -- and their number fits

@@ -1,10 +1,11 @@
--- What makes a report lawful: its numbers agree with each other.
-use Rattle.std.specs.Prelude.{◌≡◌, ℕ, ◌<◌, ◌≤◌, ◌==◌, Bool, true, false, List, map, All, AllPairs}
+-- What makes a report lawful: its names are names, its numbers fit, and they agree with each other.
+use Rattle.std.specs.Prelude.{◌≡◌, ℕ, ◌<◌, ◌^◌, ◌==◌, ◌⊎◌, Bool, true, false, List, codes, map, All, AllPairs}
 use Rattle.std.specs.List.{list_any}
+use Rattle.mem_num.specs.Name.{is_name}
 use Rattle.mem_model.specs.declared.tree_node.TreeNode.{TreeNode}
 use Rattle.mem_model.specs.Chunk.{Chunk, charges_of}
 use Rattle.mem_model.specs.Held.{held_of}
-use Rattle.mem_model.specs.Ledgers.{AreInOrder, count_of}
+use Rattle.mem_model.specs.LawfulChunk.{IsLawfulChunk}
 use Rattle.mem_model.specs.TreeNode.{IsAllocatorTree}
 use Rattle.leak_report.specs.Report.{PrintedAllocator, Report, printed_text}
 use Rattle.leak_report.specs.ReportText.{references_of}
@@ -21,19 +22,34 @@ nodes_of report = map node_of report.allocators
 abbrev pub is_printed : Report → ℕ → Bool
 is_printed report n = list_any (λ printed. printed.number.0 == n) report.allocators
 
--- a chunk whose owner has a count; an allocator has at most one count, which isn't 0, and is printed
-pub record IsLawfulLine (report : Report) (chunk : Chunk) : Type 0 where
-  pub in_order : AreInOrder chunk.ledgers
-  pub owner : 1 ≤ count_of chunk.ledgers chunk.owner.0
-  pub open_ : All (λ ledger. is_printed report ledger.at.0 ≡ true) chunk.ledgers
+-- a name, or what stands for one
+abbrev pub IsPrintedName : List ℕ → Type 0
+IsPrintedName name = (is_name name ≡ true) ⊎ (name ≡ codes "?")
 
--- the allocators are a tree, in which each holds what its charges by the printed chunks and its children come to; no two chunks have
--- the same number; and the references are those that are counted
+-- the numbers of an allocator: its own of 32 bits, and bytes of 64
+pub record AllocatorFits (printed : PrintedAllocator) : Type 0 where
+  pub number : printed.number.0 < 2 ^ 32
+  pub reservation : printed.reservation < 2 ^ 64
+  pub held : printed.held < 2 ^ 64
+  pub peak : printed.peak < 2 ^ 64
+  pub limit : printed.limit < 2 ^ 64
+
+-- the numbers of a report, as long as programs print them: those of chunks have 32 bits, the references of a ledger 64, and all references 128
+pub record NumbersFit (report : Report) : Type 0 where
+  pub allocators : All AllocatorFits report.allocators
+  pub chunks : All (λ chunk. chunk.number < 2 ^ 32) report.chunks
+  pub counts : All (λ chunk. All (λ ledger. ledger.count < 2 ^ 64) chunk.ledgers) report.chunks
+  pub references : report.references < 2 ^ 128
+
+-- names are names, and numbers fit; the allocators are a tree, in which each holds what its charges by the printed chunks and its
+-- children come to; chunks are lawful, and no two have the same number; and the references are those that are counted
 pub record IsLawful (report : Report) : Type 0 where
+  pub names : All (λ printed. IsPrintedName printed.name) report.allocators
+  pub numbers : NumbersFit report
   pub tree : IsAllocatorTree (nodes_of report)
   pub held : All (λ printed. printed.held ≡ held_of (nodes_of report) (charges_of report.chunks) printed.number.0) report.allocators
   pub in_order : AllPairs (λ older newer. older.number < newer.number) report.chunks
-  pub chunks : All (IsLawfulLine report) report.chunks
+  pub chunks : All (IsLawfulChunk (is_printed report)) report.chunks
   pub references : report.references ≡ references_of report.chunks
 
 -- a text that says something lawful

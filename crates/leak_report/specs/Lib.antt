@@ -3,4 +3,5 @@ pub mod TreeText
 pub mod ReportText
 pub mod Report
 pub mod LawfulReport
-pub mod ReadableReport
+pub mod PrintableTree
+pub mod ReadReport

@@ -54,6 +54,16 @@ line_of depth printed = record {
   limit = printed.limit;
 }
 
+-- what stands before its name in its line, without the spaces
+abbrev pub head_of : PrintedAllocator → List ℕ
+head_of printed = alloc_id_text printed.number.0 ++ codes " Allocator("
+
+-- what stands behind it
+abbrev pub tail_of : PrintedAllocator → List ℕ
+tail_of printed =
+    codes ") " ++ (decimal printed.reservation ++ (codes "/" ++ (decimal printed.held ++ (codes "/" ++ (decimal printed.peak ++ (codes "/" ++ (decimal printed.limit
+    ++ codes " (res/actual/peak/limit)\n")))))))
+
 -- whether it has this parent, or none
 abbrev pub has_parent : Option AllocId → PrintedAllocator → Bool
 has_parent None printed = is_none printed.parent
@@ -64,6 +74,12 @@ abbrev pub lines_of : List PrintedAllocator → ℕ → Option AllocId → List 
 lines_of [] depth parent = []
 lines_of (printed ∷ later) depth parent =
     (if has_parent parent printed then line_of depth printed ∷ lines_of later (depth + 1) (Some printed.number) else []) ++ lines_of later depth parent
+
+-- the same lines as text, one by one
+abbrev pub lines_text : List PrintedAllocator → ℕ → Option AllocId → List ℕ
+lines_text [] depth parent = []
+lines_text (printed ∷ later) depth parent =
+    (if has_parent parent printed then tree_line_text (line_of depth printed) ++ lines_text later (depth + 1) (Some printed.number) else []) ++ lines_text later depth parent
 
 -- the text of a report: the lines from the root on, then the chunks, and the number of references
 abbrev pub printed_text : Report → List ℕ

@@ -1,22 +1,21 @@
 //! The text of a tree: its open allocators, each below its parent. The numbers of all allocators are taken once, in order of
 //! number; then each allocator's children are found among those behind it, since a child has a greater number than its parent.
-ghost use Rattle.std.specs.Prelude.{◌≡◌, ◌+◌, ◌^◌, ◌<◌, ◌==◌, length, map, ◌++◌, IfOk, OnOk, string_bytes};
+ghost use Rattle.std.specs.Prelude.{◌≡◌, ◌+◌, ◌^◌, ◌<◌, ◌==◌, length, map, ◌++◌, All, IfOk, OnOk, string_bytes};
 ghost use Rattle.std.specs.List.{find};
 ghost use Rattle.mem_model.specs.LawfulState.{IsLawfulState};
 ghost use Rattle.mem_model.specs.MeasuredTree.{peak_at};
 ghost use Rattle.leak_report.specs.TreeText as spec;
 
-use alloc_tree::{MOST_NODES, Names, SoloTree};
-use mem_num::{AllocId, NoMemory, Node, Placed};
+use alloc_tree::{Names, SoloTree, every_tree_is_lawful};
+use mem_num::{AllocId, MOST_ALLOCATORS, NoMemory, Node, Placed};
 use std::alloc::{AllocError, Global};
 
 /// The open allocators of a tree, a line for each, behind that of its parent and two spaces deeper; children come in order of
 /// number. A line is that of `BaseAllocator.toString` of Arrow Java, with the number before it and with the name that the first
 /// of `names` gives, or `?`. A tree whose root is closed has no lines.
 pub fn tree_text(alloc: Global, tree: &SoloTree, names: &[Names]) -> Result<String, NoMemory>
-    ensures text { IfOk result (λ text. string_bytes text
+    ensures { IfOk result (λ text. string_bytes text
         ≡ spec.tree_text (map (λ n. n.bindings) names.now) (peak_at tree.now) tree.now.state) }
-    ensures lawful { IsLawfulState tree.now.state }
 {
     let Ok(nodes) = placed_nodes(alloc, tree) else {
         return Err(NoMemory);
@@ -27,23 +26,37 @@ pub fn tree_text(alloc: Global, tree: &SoloTree, names: &[Names]) -> Result<Stri
     }
 }
 
-// The allocators of a tree with their numbers, in order of number.
-fn placed_nodes(alloc: Global, tree: &SoloTree) -> Result<Vec<Placed>, AllocError>
+/// The allocators of a tree with their numbers, in order of number. The tree is lawful, and peaks have 64 bits.
+pub(crate) fn placed_nodes(alloc: Global, tree: &SoloTree) -> Result<Vec<Placed>, AllocError>
     ensures nodes { IfOk result (λ nodes. nodes.items ≡ spec.placed_nodes (peak_at tree.now) tree.now.state) }
     ensures lawful { IsLawfulState tree.now.state }
+    ensures peaks { OnOk result (All (λ node. peak_at tree.now node.number.0 < 2 ^ 64) tree.now.state.nodes) }
 {
+    every_tree_is_lawful(tree);
     let mut nodes = Vec::new(alloc);
     // A number that was given isn't always one of an allocator: some were refused.
-    for number in 0..tree.next().min(MOST_NODES) {
+    for number in 0..tree.next().min(MOST_ALLOCATORS) {
         if let Some(node) = tree.node(AllocId(number)) {
+            has_short_peak(&node);
             nodes.push(node)?;
         }
     }
     Ok(nodes)
 }
 
-// The text of some allocators, which stand in order of number.
-fn placed_text(alloc: Global, nodes: &[Placed], names: &[Names]) -> Result<String, AllocError>
+// The peak of an allocator has 64 bits. It does nothing but read it.
+fn has_short_peak(node: &Placed)
+    ensures { node.now.node.peak < 2 ^ 64 }
+{
+    let _peak = node.node.peak;
+}
+
+/// The text of some allocators, which stand in order of number.
+pub(crate) fn placed_text(
+    alloc: Global,
+    nodes: &[Placed],
+    names: &[Names],
+) -> Result<String, AllocError>
     ensures { IfOk result (λ text. string_bytes text ≡ spec.placed_text (map (λ n. n.bindings) names.now) nodes.now) }
 {
     let Some(root) = root_of(nodes) else {

@@ -1,0 +1,7 @@
+use Rattle.std.proofs.Common.{◌≡◌, take}
+use Rattle.leak_report.specs.ReportText.{references_of}
+use Rattle.leak_report.proofs.judge.check.references_of.Given as goal
+
+-- the references to the chunks so far
+abbrev pub invariant-loop-chunk : goal.invariant-loop-chunk
+invariant-loop-chunk l = l.references ≡ references_of (take l.chunk-index l.chunks)

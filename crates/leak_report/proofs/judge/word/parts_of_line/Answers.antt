@@ -1,0 +1,11 @@
+-- The parts that the split gives.
+use Rattle.std.proofs.Common.{not, rules, tests}
+use Rattle.std.proofs.lemmas.Iterator.Consumers.{map_from_collect}
+use Rattle.std.proofs.lemmas.Iterator.Splits.{YieldsList-from_slice_split}
+use Rattle.leak_report.specs.ReadReport.{is_word_byte}
+use Rattle.leak_report.proofs.judge.word.parts_of_line.Goals as goal
+
+pub returns : goal.returns
+returns c =
+    map_from_collect _ c.collect.ensures.ran
+    (YieldsList-from_slice_split _ (λ byte. not (is_word_byte byte)) c.args.line.now c.split.ensures.rest c.split.ensures.done c.split.ensures.closure (λ x b q k. search (rules, tests)))
