@@ -11,7 +11,8 @@ use Rattle.std.proofs.lemmas.List.Elements.{All-cons}
 use Rattle.script.specs.declared.form.Form.{Form}
 use Rattle.script.specs.declared.line.Line.{Line}
 use Rattle.script.specs.declared.line.Line.TheVariants.{Root, Child, Buffer, Retain, Transfer, Slice, Release, Close, Headroom, Tree, Report}
-use Rattle.script.specs.Words.{is_name, is_number, name_of, number_of, reservation_of, commands_of}
+use Rattle.mem_num.specs.Name.{is_name}
+use Rattle.script.specs.Words.{is_number, name_of, number_of, reservation_of, commands_of}
 use Rattle.script.specs.Grammar.{line_of, child_of, slice_of, limit_of, lines_of, HasBounds, ScriptParts, IsScript}
 
 -- what is of a choice is of one side
@@ -19,6 +20,11 @@ from_if : {A : Type 0} (P : A → Type 0) (b : Bool) (x y : Option A) (v : A)
     → (x ≡ Some v → P v) → (y ≡ Some v → P v) → (if b then x else y) ≡ Some v → P v
 from_if P true x y v left right is = left is
 from_if P false x y v left right is = right is
+
+-- what is of a choice that gives nothing unless a test passes is of the other side
+from_unless : {A : Type 0} (P : A → Type 0) (b : Bool) (y : Option A) (v : A) → (b ≡ true → y ≡ Some v → P v) → (if not b then None else y) ≡ Some v → P v
+from_unless P true y v right is = right refl is
+from_unless P false y v right is = absurd cc
 
 -- what is of a mapped value is of the value
 from_map : {X A : Type 0} (P : A → Type 0) (f : X → A) (o : Option X) (v : A)
@@ -56,13 +62,13 @@ reservation_bound word value is =
     from_test (λ v. v ≤ 1099511627776) (is_number word && leb (digits_value 10 word) 1099511627776) (digits_value 10 word) value
     (λ passes. let within = (and_parts (is_number word) (leb (digits_value 10 word) 1099511627776) passes).1 in grind (arith, nat_tests, within)) is
 
--- a child's are
-child_bounds : (name parent : List ℕ) (reservation limit : Option ℕ) (line : Line)
+-- a child's are, and its name is one
+child_bounds : (name parent : List ℕ) (reservation limit : Option ℕ) (line : Line) → is_name name ≡ true
     → ((r : ℕ) → reservation ≡ Some r → r ≤ 1099511627776) → ((l : ℕ) → limit ≡ Some l → l < 9223372036854775808)
     → child_of name parent reservation limit ≡ Some line → HasBounds line
-child_bounds name parent (Some r) (Some l) line reserved limited is = from_some HasBounds (Child name parent r l) line (reserved r refl, limited l refl) is
-child_bounds name parent (Some r) None line reserved limited is = from_none HasBounds line is
-child_bounds name parent None limit line reserved limited is = from_none HasBounds line is
+child_bounds name parent (Some r) (Some l) line named reserved limited is = from_some HasBounds (Child name parent r l) line (reserved r refl, limited l refl, named) is
+child_bounds name parent (Some r) None line named reserved limited is = from_none HasBounds line is
+child_bounds name parent None limit line named reserved limited is = from_none HasBounds line is
 
 -- and a slice's
 slice_bounds : (name source : List ℕ) (start length : Option ℕ) (line : Line)
@@ -100,9 +106,9 @@ line_bounds (word ∷ name ∷ other ∷ last ∷ []) line is =
     (from_if HasBounds (bytes_eq word (codes "transfer")) (option_map (Transfer name other) (name_of last)) None line (named (Transfer name other) (λ at. tt)) none))) is
 line_bounds (word ∷ name ∷ other ∷ first ∷ last ∷ []) line is =
     let none = from_none HasBounds line in
-    from_if HasBounds (not (is_name name && is_name other)) None _ line none
-    (from_if HasBounds (bytes_eq word (codes "child")) (child_of name other (reservation_of first) (number_of last)) _ line
-    (child_bounds name other (reservation_of first) (number_of last) line (reservation_bound first) (number_bound last))
+    from_unless HasBounds (is_name name && is_name other) _ line (λ named.
+    from_if HasBounds (bytes_eq word (codes "child")) (child_of name other (reservation_of first) (number_of last)) _ line
+    (child_bounds name other (reservation_of first) (number_of last) line (and_parts (is_name name) (is_name other) named).0 (reservation_bound first) (number_bound last))
     (from_if HasBounds (bytes_eq word (codes "slice")) (slice_of name other (number_of first) (number_of last)) None line
     (slice_bounds name other (number_of first) (number_of last) line (number_bound first) (number_bound last)) none)) is
 line_bounds (word ∷ a ∷ b ∷ c ∷ d ∷ e ∷ more) line is = from_none HasBounds line is

@@ -9,4 +9,6 @@ mod NumberLemmas
 mod BoundLemmas
 mod TraceLemmas
 mod RunLemmas
+mod GivenLemmas
+mod SoundTraceLemmas
 mod ReportLemmas

@@ -10,9 +10,11 @@ use Rattle.script.specs.Count.{Counts}
 use Rattle.script.specs.Grammar.{limit_of, lines_of, Says, ScriptParts, IsScript}
 use Rattle.script.specs.Reading.{MayFollow, script_of}
 use Rattle.script.specs.Running.{HasCome, HasRun, printed_by}
-use Rattle.script.specs.Shown.{IsAt, HasNumbers, DrawsNumbers, PrintsLine}
+use Rattle.mem_model.specs.DrawnNumbers.{DrawsNumbers}
+use Rattle.script.specs.Shown.{IsAt, HasNumbers, PrintsLine}
 use Rattle.script.specs.Trace.{line_result, opened_trace, text_of, state_after, trace_text}
-use Rattle.script.proofs.NumberLemmas.{draws_nothing, numbers-left}
+use Rattle.mem_model.proofs.DrawnLemmas.{draws_nothing}
+use Rattle.script.proofs.NumberLemmas.{numbers-left}
 use Rattle.script.proofs.TraceLemmas.{text_of-append, state_after-append}
 
 -- what the first line sets stays set

@@ -13,7 +13,8 @@ use Rattle.std.proofs.lemmas.Str.{IsUtf8-from_ascii}
 use Rattle.std.proofs.lemmas.Str.Parse.{IsNumeralModel, numerals_by_value, parse_digits}
 use Rattle.std.proofs.lemmas.List.Sums.{AllPass-from_list_all}
 use Rattle.std.proofs.lemmas.Str.Ascii.{IsAscii-from_all}
-use Rattle.script.specs.Words.{is_number, number_of, is_name, is_name_byte, is_blank, is_skipped, words_of, words_with}
+use Rattle.mem_num.specs.Name.{is_name, is_name_byte}
+use Rattle.script.specs.Words.{is_number, number_of, is_blank, is_skipped, words_of, words_with}
 use Rattle.script.proofs.TextLemmas.{split-at, split-none}
 
 -- each byte is a digit

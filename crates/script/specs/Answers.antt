@@ -64,7 +64,7 @@ abbrev pub retain_text : List ℕ → Result Ref SoloRefused → List ℕ
 retain_text name (Ok reference) = codes "retain " ++ (name ++ (at_text reference ++ codes "\n"))
 retain_text name (Err refused) = refused_text refused
 
--- whether a forced charge is within all limits
+-- whether a forced charge is within the limit of each of its levels
 abbrev pub fit_text : Bool → List ℕ
 fit_text true = codes " fit\n"
 fit_text false = codes " over\n"

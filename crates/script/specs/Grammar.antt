@@ -2,7 +2,9 @@
 use Rattle.std.specs.Prelude.{◌≡◌, ℕ, ◌-◌, ◌^◌, ◌<◌, ◌≤◌, Bool, true, false, not, ◌&&◌, List, [], ◌∷◌, ◌++◌, length, map, take, drop, count_by, if◌then◌else◌, Option, Some, None, codes, option_map, All}
 use Rattle.std.specs.List.{flat_map}
 use Rattle.std.specs.Str.{bytes_eq}
-use Rattle.script.specs.Words.{is_name, name_of, number_of, reservation_of, commands_of}
+use Rattle.mem_num.specs.Name.{is_name}
+use Rattle.mem_num.specs.declared.bounds.TheConstants.{MAX_LIMIT}
+use Rattle.script.specs.Words.{name_of, number_of, reservation_of, commands_of}
 use Rattle.script.specs.declared.form.Form.{Form}
 use Rattle.script.specs.declared.form.Form.TheVariants.{Trace, Drive}
 use Rattle.script.specs.declared.line.Line.{Line}
@@ -60,9 +62,10 @@ abbrev pub is_report : Line → Bool
 is_report Report = true
 is_report line = false
 
--- the lines that may stand in a script of this form
+-- the lines that may stand in a script of this form; one for threads is all setup yet, in which no slice stands
 abbrev pub stands_in : Form → Line → Bool
 stands_in Trace line = true
+stands_in Drive (Slice name source start length) = false
 stands_in Drive (Headroom at) = false
 stands_in Drive Tree = false
 stands_in Drive Report = false
@@ -71,12 +74,12 @@ stands_in Drive line = true
 -- the root's limit: that of the root line, which stands first, or else the largest limit
 abbrev pub limit_of : List Line → ℕ
 limit_of (Root limit ∷ more) = limit
-limit_of lines = 9223372036854775807
+limit_of lines = MAX_LIMIT
 
--- the bounds of a line's numbers: a reservation is at most 2 ^ 40, a limit and where a slice lies below 2 ^ 63
+-- what holds of a line that was read: a child's name is a name, its reservation is at most 2 ^ 40, and limits and where a slice lies are below 2 ^ 63
 abbrev pub HasBounds : Line → Type 0
 HasBounds (Root limit) = limit < 2 ^ 63
-HasBounds (Child name parent reservation limit) = (reservation ≤ 2 ^ 40) × (limit < 2 ^ 63)
+HasBounds (Child name parent reservation limit) = (reservation ≤ 2 ^ 40) × (limit < 2 ^ 63) × (is_name name ≡ true)
 HasBounds (Slice name source start length) = (start < 2 ^ 63) × (length < 2 ^ 63)
 HasBounds line = Unit {0}
 

@@ -7,5 +7,6 @@ pub mod Answers
 pub mod Bound
 pub mod Buffers
 pub mod Trace
+pub mod References
 pub mod Shown
 pub mod Running

@@ -1,6 +1,5 @@
 -- A trace that is being run shows what it has come to.
 use Rattle.std.specs.Prelude.{◌≡◌, ℕ, ◌+◌, ◌<◌, ◌≤◌, ◌^◌, List, ◌++◌, All}
-use Rattle.mem_model.specs.Chunk.{Chunk}
 use Rattle.mem_model.specs.Ledgers.{total_of}
 use Rattle.mem_model.specs.MeasuredTree.{peak_at}
 use Rattle.mem_model.specs.PeakSample.{PeakSample, peak_of}
@@ -29,18 +28,8 @@ Prints old new before after line = (state : TraceState) → IsAt old state
 abbrev pub PrintsLine : Trace → Trace → List ℕ → List ℕ → Line → Type 0
 PrintsLine old new before after line = Prints old new before after (λ state. line_result state line)
 
--- no chunk has more than n references
-abbrev pub HaveReferences : ℕ → List Chunk → Type 0
-HaveReferences n chunks = All (λ chunk. total_of chunk.ledgers ≤ n) chunks
-
 -- 32 bits hold the numbers that so many more lines may draw, and the references that they may add to a chunk
 pub record HasNumbers (tree : TreeState) (lines : ℕ) : Type 0 where
   pub chunks : tree.drawn + lines < 2 ^ 32
   pub allocators : tree.next + lines < 2 ^ 32
   pub references : All (λ chunk. total_of chunk.ledgers + lines < 2 ^ 32) tree.chunks
-
--- so many lines drew at most one number each, and added at most one reference each to any chunk
-pub record DrawsNumbers (old new : TreeState) (lines : ℕ) : Type 0 where
-  pub chunks : new.drawn ≤ old.drawn + lines
-  pub allocators : new.next ≤ old.next + lines
-  pub references : (n : ℕ) → HaveReferences n old.chunks → HaveReferences (n + lines) new.chunks

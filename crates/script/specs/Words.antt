@@ -1,8 +1,10 @@
 -- The words of a line, and the names and numbers among them. A line and a word are lists of bytes.
 use Rattle.std.specs.Prelude.{ℕ, Bool, true, not, ◌&&◌, ◌||◌, nat_le, nat_lt, ◌==◌, List, [], ◌∷◌, length, filter, map, if◌then◌else◌, Option, Some, None, slice_index}
 use Rattle.std.specs.List.{slice_split, list_all}
-use Rattle.std.specs.Char.{is_ascii_alphanumeric, is_ascii_digit}
+use Rattle.std.specs.Char.{is_ascii_digit}
 use Rattle.std.specs.Str.Parse.{digits_value}
+use Rattle.mem_num.specs.Name.{is_name}
+use Rattle.mem_num.specs.declared.bounds.TheConstants.{MAX_LIMIT, MAX_RESERVATION}
 
 -- a space or a tab
 abbrev pub is_blank : ℕ → Bool
@@ -16,18 +18,10 @@ words_of line = filter (λ word. nat_lt 0 (length word)) (slice_split is_blank l
 abbrev pub words_with : List ℕ → List (List ℕ) → List (List ℕ)
 words_with part words = if nat_lt 0 (length part) then part ∷ words else words
 
--- a letter, a digit, '_', '-' or '.'
-abbrev pub is_name_byte : ℕ → Bool
-is_name_byte byte = is_ascii_alphanumeric byte || (byte == 95) || (byte == 45) || (byte == 46)
-
--- a name is 1 to 32 bytes, each a letter, a digit, '_', '-' or '.'
-unfoldable pub is_name : List ℕ → Bool
-is_name word = nat_lt 0 (length word) && nat_le (length word) 32 && list_all is_name_byte word
-
--- a number is one or more digits with a value of at most 2 ^ 63 - 1
+-- a number is one or more digits, whose value is at most the greatest limit
 unfoldable pub is_number : List ℕ → Bool
 is_number word =
-    nat_lt 0 (length word) && list_all is_ascii_digit word && nat_le (digits_value 10 word) 9223372036854775807
+    nat_lt 0 (length word) && list_all is_ascii_digit word && nat_le (digits_value 10 word) MAX_LIMIT
 
 -- the name that a word is
 abbrev pub name_of : List ℕ → Option (List ℕ)
@@ -37,10 +31,10 @@ name_of word = if is_name word then Some word else None
 abbrev pub number_of : List ℕ → Option ℕ
 number_of word = if is_number word then Some (digits_value 10 word) else None
 
--- the value of a number of at most 2 ^ 40
+-- the value of a number that is at most the largest reservation
 abbrev pub reservation_of : List ℕ → Option ℕ
 reservation_of word =
-    if is_number word && nat_le (digits_value 10 word) 1099511627776 then Some (digits_value 10 word) else None
+    if is_number word && nat_le (digits_value 10 word) MAX_RESERVATION then Some (digits_value 10 word) else None
 
 -- a line is skipped if it has no words, or its first word begins with '#'
 abbrev pub is_skipped : List (List ℕ) → Bool

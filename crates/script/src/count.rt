@@ -79,7 +79,7 @@ impl Count {
         };
         match line {
             Line::Root { .. } if self.lines == 0 => Some(more),
-            Line::Headroom { .. } if matches!(form, Form::Trace) => Some(more),
+            Line::Slice { .. } | Line::Headroom { .. } if matches!(form, Form::Trace) => Some(more),
             Line::Tree if matches!(form, Form::Trace) && self.trees < MAX_TREES => Some(Count {
                 trees: self.trees + 1,
                 ..more
@@ -90,12 +90,15 @@ impl Count {
                     ..more
                 })
             }
-            Line::Root { .. } | Line::Headroom { .. } | Line::Tree | Line::Report => None,
+            Line::Root { .. }
+            | Line::Slice { .. }
+            | Line::Headroom { .. }
+            | Line::Tree
+            | Line::Report => None,
             Line::Child { .. }
             | Line::Buffer { .. }
             | Line::Retain { .. }
             | Line::Transfer { .. }
-            | Line::Slice { .. }
             | Line::Release { .. }
             | Line::Close { .. } => Some(more),
         }

@@ -1,7 +1,8 @@
-//! The laws of traces. The function does nothing: its contract is a law, which the check proves.
+//! The laws of traces. Each function does nothing: its contract is a law, which the check proves.
 ghost use Rattle.std.specs.Prelude.{◌≡◌, ℕ, List, ◌∷◌, ◌++◌};
 ghost use Rattle.leak_report.specs.LawfulReport.{IsLawfulReport};
 ghost use Rattle.script.specs.Grammar.{ScriptParts, IsScript, lines_of};
+ghost use Rattle.script.specs.References.{KeepsReferences};
 ghost use Rattle.script.specs.Trace.{line_result, opened_trace, state_after, text_of, trace_text};
 ghost use Rattle.script.specs.declared.form.Form.TheVariants as form;
 ghost use Rattle.script.specs.declared.line.Line.{Line};
@@ -18,4 +19,13 @@ pub fn reports_of_a_trace_are_lawful()
         let state = state_after (opened_trace script.limit) said in
         trace_text script ≡ text_of (opened_trace script.limit) said
         ++ ((line_result state Report).text ++ text_of state more) }
+{}
+
+/// After any lines of a script each allocator has as many references to each chunk as it was given there and didn't give back, and
+/// `refs` in a report counts them all. A name whose reference wasn't given back is of a live chunk, so that no line on it is
+/// answered `released`.
+pub fn references_of_a_trace_are_those_given()
+    ensures { (text : List (List ℕ)) (script : ScriptParts) (said more : List Line) →
+        IsScript form.Trace text script → lines_of script ≡ said ++ more →
+        KeepsReferences (state_after (opened_trace script.limit) said) }
 {}

@@ -21,7 +21,7 @@ mod trace;
 mod word;
 
 pub use form::Form;
-pub use laws::reports_of_a_trace_are_lawful;
+pub use laws::{references_of_a_trace_are_those_given, reports_of_a_trace_are_lawful};
 pub use line::Line;
 pub use name::Name;
 pub use read::{read_script, texts_have_one_reading};

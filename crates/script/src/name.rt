@@ -3,7 +3,7 @@ ghost use Rattle.std.specs.Prelude.{◌≡◌, ℕ, List, Some};
 ghost use Rattle.std.specs.Str.{bytes_eq};
 ghost use Rattle.script.specs.Words.{name_of};
 
-use crate::word::is_name;
+use mem_num::is_name;
 use std::fmt;
 use std::marker::Model;
 

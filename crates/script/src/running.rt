@@ -1,5 +1,5 @@
 //! A trace that is run as it is read.
-ghost use Rattle.std.specs.Prelude.{◌≡◌, ℕ, [], ◌∷◌, ◌++◌, true, false, List, IfOk, OnOk};
+ghost use Rattle.std.specs.Prelude.{◌≡◌, ℕ, [], ◌∷◌, ◌++◌, true, false, List, IfOk, OnOk, OnErr};
 ghost use Rattle.script.specs.Count.{CountsOneMore};
 ghost use Rattle.script.specs.Grammar.{Says, HasBounds};
 ghost use Rattle.script.specs.Reading.{MayFollow, EndsHere};
@@ -11,7 +11,7 @@ use crate::count::{Count, TextLine};
 use crate::form::Form;
 use crate::line::Line;
 use crate::trace::Trace;
-use crate::word::MAX_NUMBER;
+use mem_num::MAX_LIMIT;
 use std::alloc::{AllocError, Global};
 
 /// A trace with the lines of its script that were run.
@@ -30,7 +30,7 @@ impl<'a> Running<'a> {
     {
         Ok(Running {
             count: Count::new(),
-            trace: Trace::open(alloc, MAX_NUMBER)?,
+            trace: Trace::open(alloc, MAX_LIMIT)?,
             text: String::new(alloc),
         })
     }
@@ -50,6 +50,7 @@ impl<'a> Running<'a> {
         ensures ends_here { result ≡ Ok false → (said : List AnyLine) (before : List ℕ)
             → HasRun self.old said before out.old.items → EndsHere form.Trace text.now said }
         ensures unchanged { result ≡ Ok false → out.new ≡ out.old }
+        ensures err { OnErr result (out.new.items ≡ out.old.items) }
     {
         match self.count.read(Form::Trace, text) {
             TextLine::Skipped => Ok(true),

@@ -5,7 +5,7 @@ ghost use Rattle.script.specs.Reading.{script_of};
 
 use crate::line::Line;
 use crate::section::Section;
-use crate::word::MAX_NUMBER;
+use mem_num::MAX_LIMIT;
 use std::alloc::{AllocError, Global};
 use std::marker::Model;
 
@@ -57,8 +57,8 @@ fn limit_of(lines: &[Line]) -> u64
     match lines {
         [first, ..] => match first {
             Line::Root { limit } => *limit,
-            _ => MAX_NUMBER,
+            _ => MAX_LIMIT,
         },
-        [] => MAX_NUMBER,
+        [] => MAX_LIMIT,
     }
 }

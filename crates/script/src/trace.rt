@@ -26,7 +26,8 @@ impl<'a> Trace<'a> {
     ghost use Rattle.std.specs.Prelude.{◌<◌, ◌^◌};
     ghost use Rattle.script.specs.Grammar.{HasBounds};
     ghost use Rattle.script.specs.Trace.{opened_trace};
-    ghost use Rattle.script.specs.Shown.{IsAt, PrintsLine, HasNumbers, DrawsNumbers};
+    ghost use Rattle.mem_model.specs.DrawnNumbers.{DrawsNumbers};
+    ghost use Rattle.script.specs.Shown.{IsAt, PrintsLine, HasNumbers};
 
     /// A trace before its first line.
     pub(crate) fn open(alloc: Global, limit: u64) -> Result<Trace<'a>, AllocError>

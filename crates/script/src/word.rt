@@ -2,14 +2,10 @@
 ghost use Rattle.std.specs.Prelude.{◌≡◌, ◌<◌, ◌∷◌, [], length, position, IfSome};
 ghost use Rattle.std.specs.List.{list_all};
 ghost use Rattle.std.specs.Char.{is_ascii_digit};
-ghost use Rattle.script.specs.Words.{is_blank, is_name, is_name_byte, is_skipped};
+ghost use Rattle.script.specs.Words.{is_blank, is_skipped};
 ghost use Rattle.script.specs.Words.{number_of, reservation_of, words_of, words_with};
 
-/// The largest number.
-pub(crate) const MAX_NUMBER: u64 = 9_223_372_036_854_775_807;
-
-// The largest reservation.
-const MAX_RESERVATION: u64 = 1_099_511_627_776;
+use mem_num::{MAX_LIMIT, MAX_RESERVATION};
 
 /// Whether a line is skipped. Its words are not looked for.
 pub(crate) fn is_skipped(line: &[u8]) -> bool
@@ -55,14 +51,6 @@ fn blank(line: &[u8]) -> Option<usize>
     line.iter().position(|byte| is_blank(*byte))
 }
 
-/// Whether a word is a name.
-#[tactic(auto, unfolding(crate::specs::Words::is_name))]
-pub(crate) fn is_name(word: &[u8]) -> bool
-    ensures { result ≡ is_name word.now }
-{
-    !word.is_empty() && word.len() <= 32 && are_name_bytes(word)
-}
-
 /// The number that a word is.
 #[tactic(auto, unfolding(crate::specs::Words::is_number))]
 pub(crate) fn number_of(word: &[u8]) -> Option<u64>
@@ -77,7 +65,7 @@ pub(crate) fn number_of(word: &[u8]) -> Option<u64>
     let Ok(value) = text.parse::<u64>() else {
         return None;
     };
-    if value <= MAX_NUMBER {
+    if value <= MAX_LIMIT {
         Some(value)
     } else {
         None
@@ -100,18 +88,6 @@ fn is_blank(byte: u8) -> bool
     ensures { result ≡ is_blank byte }
 {
     byte == b' ' || byte == b'\t'
-}
-
-fn is_name_byte(byte: u8) -> bool
-    ensures { result ≡ is_name_byte byte }
-{
-    byte.is_ascii_alphanumeric() || byte == b'_' || byte == b'-' || byte == b'.'
-}
-
-fn are_name_bytes(word: &[u8]) -> bool
-    ensures { result ≡ list_all is_name_byte word.now }
-{
-    word.iter().all(|byte| is_name_byte(*byte))
 }
 
 fn are_digits(word: &[u8]) -> bool

@@ -291,12 +291,15 @@ fn a_trace_has_at_most_16_report_lines(rt: HostRuntime) -> Result<(), Fail> {
 }
 
 #[test]
-fn a_drive_has_no_tree_no_report_and_no_headroom_line(rt: HostRuntime) -> Result<(), Fail> {
+fn a_drive_has_no_tree_report_or_headroom_and_no_slice_in_its_setup(
+    rt: HostRuntime,
+) -> Result<(), Fail> {
     for (text, want) in [
         ("root 5\nbuffer a ROOT 1", "5: root 5; buffer a ROOT 1;"),
         ("root 5\ntree\n", "line 2"),
         ("headroom ROOT\n", "line 1"),
         ("report\n", "line 1"),
+        ("buffer a ROOT 8\nslice s a 0 4\n", "line 2"),
         ("# tree\n", "9223372036854775807:"),
         (
             "child c ROOT 0 9\nbuffer a c 1\nrelease a\nclose c\n",

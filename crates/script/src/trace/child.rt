@@ -2,7 +2,8 @@
 ghost use Rattle.std.specs.Prelude.{◌≡◌, ◌<◌, ◌≤◌, ◌^◌, OnOk, string_bytes};
 ghost use Rattle.script.specs.declared.line.Line.TheVariants as line;
 ghost use Rattle.script.specs.Trace.{names_after};
-ghost use Rattle.script.specs.Shown.{PrintsLine, HasNumbers, DrawsNumbers};
+ghost use Rattle.mem_model.specs.DrawnNumbers.{DrawsNumbers};
+ghost use Rattle.script.specs.Shown.{PrintsLine, HasNumbers};
 
 use crate::answer::{write_child, write_taken, write_unknown};
 use crate::name::Name;

@@ -3,7 +3,8 @@ ghost use Rattle.std.specs.Prelude.{◌≡◌, ◌<◌, ◌^◌, false, IfOk, On
 ghost use Rattle.script.specs.declared.line.Line.TheVariants as line;
 ghost use Rattle.script.specs.Buffers.{buffer_of};
 ghost use Rattle.script.specs.Trace.{buffers_after};
-ghost use Rattle.script.specs.Shown.{PrintsLine, HasNumbers, DrawsNumbers};
+ghost use Rattle.mem_model.specs.DrawnNumbers.{DrawsNumbers};
+ghost use Rattle.script.specs.Shown.{PrintsLine, HasNumbers};
 
 use crate::answer::{write_buffer, write_taken, write_unknown};
 use crate::buffers::Buffers;

@@ -1,7 +1,8 @@
 //! Closing an allocator, and what a trace shows of its tree.
 ghost use Rattle.std.specs.Prelude.{◌≡◌, OnOk, string_bytes};
 ghost use Rattle.script.specs.declared.line.Line.TheVariants as line;
-ghost use Rattle.script.specs.Shown.{PrintsLine, DrawsNumbers};
+ghost use Rattle.mem_model.specs.DrawnNumbers.{DrawsNumbers};
+ghost use Rattle.script.specs.Shown.{PrintsLine};
 
 use crate::answer::{write_close, write_headroom, write_unknown};
 use crate::name::Name;

@@ -2,7 +2,8 @@
 ghost use Rattle.std.specs.Prelude.{◌≡◌, ◌<◌, OnOk, length, string_bytes};
 ghost use Rattle.script.specs.declared.line.Line.TheVariants as line;
 ghost use Rattle.script.specs.Trace.{release_line};
-ghost use Rattle.script.specs.Shown.{Prints, PrintsLine, DrawsNumbers};
+ghost use Rattle.mem_model.specs.DrawnNumbers.{DrawsNumbers};
+ghost use Rattle.script.specs.Shown.{Prints, PrintsLine};
 
 use crate::answer::{write_empty, write_given_back, write_release, write_unknown};
 use crate::buffer::{Buffer, GivenRef};

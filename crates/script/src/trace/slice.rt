@@ -4,7 +4,8 @@ ghost use Rattle.script.specs.declared.line.Line.TheVariants as line;
 ghost use Rattle.script.specs.Bound.{IsWithin};
 ghost use Rattle.script.specs.Buffers.{buffer_of};
 ghost use Rattle.script.specs.Trace.{slice_line};
-ghost use Rattle.script.specs.Shown.{Prints, PrintsLine, DrawsNumbers};
+ghost use Rattle.mem_model.specs.DrawnNumbers.{DrawsNumbers};
+ghost use Rattle.script.specs.Shown.{Prints, PrintsLine};
 
 use crate::answer::{write_given_back, write_outside, write_slice, write_taken, write_unknown};
 use crate::buffer::{Buffer, GivenRef};

@@ -4,7 +4,8 @@ ghost use Rattle.script.specs.declared.line.Line.TheVariants as line;
 ghost use Rattle.script.specs.Bound.{IsWithin};
 ghost use Rattle.script.specs.Buffers.{buffer_of};
 ghost use Rattle.script.specs.Trace.{transfer_line, transferred_after};
-ghost use Rattle.script.specs.Shown.{Prints, PrintsLine, HasNumbers, DrawsNumbers};
+ghost use Rattle.mem_model.specs.DrawnNumbers.{DrawsNumbers};
+ghost use Rattle.script.specs.Shown.{Prints, PrintsLine, HasNumbers};
 
 use crate::answer::{
     write_empty_transfer, write_given_back, write_taken, write_transfer, write_unknown,

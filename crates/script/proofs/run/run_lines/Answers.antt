@@ -49,6 +49,6 @@ returns-then-not-branch-clause-bad c = λ line e.
     (ends_first _ _ done _ _ said c.loop-rest.line whole numbered old ends)
 
 pub returns-then-not-branch-clause-grown : goal.returns-then-not-branch-clause-grown
-returns-then-not-branch-clause-grown c = λ line e.
+returns-then-not-branch-clause-grown c =
     let (done, said, split, numbered, old, ran) = c.loop-rest.invariant.reached in
     (printed_by said, ap (λ out. out.items) (c.take.ensures.unchanged (c.in_ok-take.was ∙ ap Ok c.if-not-branch.true)) ∙ ran.printed)

@@ -1,8 +1,9 @@
 -- The call draws at most one number, and what it gives isn't large.
 use Rattle.std.proofs.Common.{subst, sym}
 use Rattle.std.proofs.lemmas.Result.{on_ok_weaker}
-use Rattle.script.specs.Shown.{DrawsNumbers}
-use Rattle.script.proofs.NumberLemmas.{grant_draws, granted_small}
+use Rattle.mem_model.specs.DrawnNumbers.{DrawsNumbers}
+use Rattle.mem_model.proofs.DrawnLemmas.{grant_draws}
+use Rattle.script.proofs.NumberLemmas.{granted_small}
 use Rattle.script.proofs.trace.Trace.buffer.Goals as goal
 
 pub bind-requires-clause-small : goal.bind-requires-clause-small

@@ -1,8 +1,8 @@
 -- The call draws at most one number.
 use Rattle.std.proofs.Common.{subst, sym}
 use Rattle.std.proofs.lemmas.Result.{on_ok_weaker}
-use Rattle.script.specs.Shown.{DrawsNumbers}
-use Rattle.script.proofs.NumberLemmas.{release_draws}
+use Rattle.mem_model.specs.DrawnNumbers.{DrawsNumbers}
+use Rattle.mem_model.proofs.DrawnLemmas.{release_draws}
 use Rattle.script.proofs.trace.Trace.release_buffer.Goals as goal
 
 pub returns-clause-draws : goal.returns-clause-draws

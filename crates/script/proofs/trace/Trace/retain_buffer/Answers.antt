@@ -1,8 +1,9 @@
 -- The call draws at most one number, and adds at most one reference.
 use Rattle.std.proofs.Common.{subst, sym}
 use Rattle.std.proofs.lemmas.Result.{on_ok_weaker}
-use Rattle.script.specs.Shown.{DrawsNumbers}
-use Rattle.script.proofs.NumberLemmas.{retain_draws, numbers-room}
+use Rattle.mem_model.specs.DrawnNumbers.{DrawsNumbers}
+use Rattle.mem_model.proofs.DrawnLemmas.{retain_draws}
+use Rattle.script.proofs.NumberLemmas.{numbers-room}
 use Rattle.script.proofs.trace.Trace.retain_buffer.Goals as goal
 
 pub retain-answer-requires : goal.retain-answer-requires

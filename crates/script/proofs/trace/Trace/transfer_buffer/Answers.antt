@@ -1,8 +1,9 @@
 -- The call draws at most one number, and adds at most one reference.
 use Rattle.std.proofs.Common.{subst, sym}
 use Rattle.std.proofs.lemmas.Result.{on_ok_weaker}
-use Rattle.script.specs.Shown.{DrawsNumbers}
-use Rattle.script.proofs.NumberLemmas.{transfer_draws, numbers-room}
+use Rattle.mem_model.specs.DrawnNumbers.{DrawsNumbers}
+use Rattle.mem_model.proofs.DrawnLemmas.{transfer_draws}
+use Rattle.script.proofs.NumberLemmas.{numbers-room}
 use Rattle.script.proofs.trace.Trace.transfer_buffer.Goals as goal
 
 pub transfer-answer-requires : goal.transfer-answer-requires
