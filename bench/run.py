@@ -3,9 +3,10 @@
 
     run.py [--times N] [--lines N] [--peer-alone] [PROGRAM WORD..]
 
-PROGRAM is run as `PROGRAM WORD.. trace FILE`; without it that is ./arrowmem at the top of the repository. It builds no
-proved program. The peer of bench/peer is compiled into a temporary folder where there is a rustc, and else left out. The
-two take turns, and each figure is the least of N runs (default 5); then what they print is compared byte by byte.
+PROGRAM is run as `PROGRAM WORD.. trace FILE`; without it that is ./arrowmem at the top of the repository, which is proved
+and built first where it isn't yet. The peer of bench/peer is compiled into a temporary folder where there is a rustc, and
+else left out. The two take turns, and each figure is the least of N runs (default 5); then what they print is compared byte
+by byte.
 """
 
 import argparse
@@ -61,6 +62,14 @@ def table(names, commands, traces, times):
         seconds, peaks = zip(*measure(commands, trace, times))
         row = [what] + cells(seconds, 3, words is None) + cells(peaks, 1, words is None)
         print("| " + " | ".join(row) + " |", flush=True)
+
+
+def built_program():
+    """The launcher as a command, after it has built the proved program: what it runs before isn't to be timed."""
+    launcher = os.path.join(os.path.dirname(HERE), "arrowmem")
+    if subprocess.run([launcher, "--build"]).returncode != 0:
+        sys.exit("the program isn't built: nothing to measure")
+    return [launcher]
 
 
 def write_traces(folder, lines):
@@ -119,7 +128,7 @@ def main():
     with tempfile.TemporaryDirectory() as folder:
         commands = {}
         if not words.peer_alone:
-            commands["program"] = words.program or [os.path.join(os.path.dirname(HERE), "arrowmem")]
+            commands["program"] = words.program or built_program()
         peer = compile_peer(folder)
         if peer is not None:
             commands["peer"] = peer
