@@ -5,6 +5,7 @@ mod ReferenceLemmas
 mod ChangeLemmas
 mod RowLemmas
 mod WalkLemmas
+mod RisingLemmas
 mod RaiseLemmas
 mod LowerLemmas
 mod ForceLemmas

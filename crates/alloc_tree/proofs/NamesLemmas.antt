@@ -1,5 +1,7 @@
 -- Names among the entries of a map.
-use Rattle.std.proofs.Common.{◌≡◌, ◌≢◌, ◌==◌, ◌<◌, ℕ, List, [], ◌∷◌, ◌++◌, length, get_or, map, Bool, true, false, IsTrue, refl, sym, ap, ◌∙◌, inl, inr, arith, subst, Option, IsSome, is_some, String, Global, string_bytes, codes}
+use Rattle.std.proofs.Common.{◌≡◌, ◌≢◌, ◌==◌, ◌<◌, ℕ, List, [], ◌∷◌, ◌++◌, length, get_or, map, Bool, true}
+use Rattle.std.proofs.Common.{false, IsTrue, refl, sym, ap, ◌∙◌, inl, inr, arith, subst, Option, IsSome, is_some, String, Global}
+use Rattle.std.proofs.Common.{string_bytes, codes}
 use Rattle.std.specs.List.{find, list_any, AllZip}
 use Rattle.std.specs.Map.{lookup}
 use Rattle.std.specs.Option.{option_map}
@@ -41,7 +43,8 @@ find-bindings (entry ∷ entries) name = elim (cases_Bool (bytes_eq name (string
 ]
 
 -- any other name is looked up
-pub allocator_of-entries : (entries : List (String Global × AllocId)) (name : List ℕ) (r : Option AllocId) → bytes_eq name (codes "ROOT") ≡ false
+pub allocator_of-entries : (entries : List (String Global × AllocId)) (name : List ℕ) (r : Option AllocId)
+    → bytes_eq name (codes "ROOT") ≡ false
     → r ≡ lookup (λ key. bytes_eq name (string_bytes key)) entries → r ≡ allocator_of (bindings_of entries) name
 allocator_of-entries entries name r other is = is ∙ (sym (find-bindings entries name) ∙ rw other refl)
 
@@ -67,7 +70,8 @@ pub AreLawful-root : AreLawful (root_binding ∷ [])
 unfolding is_name
 AreLawful-root = record {
   unique = λ i j d before within. absurd (omega arith);
-  names = All-cons (λ (binding : List ℕ × AllocId). is_name binding.0 ≡ true) root_binding [] refl (All-nil (λ (binding : List ℕ × AllocId). is_name binding.0 ≡ true));
+  names = All-cons (λ (binding : List ℕ × AllocId). is_name binding.0 ≡ true) root_binding [] refl
+      (All-nil (λ (binding : List ℕ × AllocId). is_name binding.0 ≡ true));
 }
 
 -- a free name is none of those that are bound
@@ -78,7 +82,8 @@ free-differs bindings name free k d within same =
     false≢true (sym free ∙ list_any_at (λ binding. bytes_eq name binding.0) bindings k d within passes)
 
 -- so it can be bound once more
-pub AreLawful-bound : (bindings : List (List ℕ × AllocId)) (name : List ℕ) (at : AllocId) → AreLawful bindings → is_bound bindings name ≡ false
+pub AreLawful-bound : (bindings : List (List ℕ × AllocId)) (name : List ℕ) (at : AllocId) → AreLawful bindings
+    → is_bound bindings name ≡ false
     → is_name name ≡ true → AreLawful (bindings ++ (name, at) ∷ [])
 AreLawful-bound bindings name at lawful free is = record {
   unique = all_pairs_push (λ before after. before.0 ≢ after.0) bindings (name, at) lawful.unique (free-differs bindings name free);
@@ -91,7 +96,8 @@ insert_entry-last : (entries : List (String Global × AllocId)) (text : String G
     → map binding_of (insert_entry string_eq entries text at) ≡ map binding_of entries ++ (string_bytes text, at) ∷ []
 insert_entry-last [] text at free = refl
 insert_entry-last (entry ∷ entries) text at free =
-    let parts = or_parts (bytes_eq (string_bytes text) (string_bytes entry.0)) (list_any (λ (binding : List ℕ × AllocId). bytes_eq (string_bytes text) binding.0) (map binding_of entries)) free in
+    let parts = or_parts (bytes_eq (string_bytes text) (string_bytes entry.0))
+    (list_any (λ (binding : List ℕ × AllocId). bytes_eq (string_bytes text) binding.0) (map binding_of entries)) free in
     rw parts.0 (ap (λ more. binding_of entry ∷ more) (insert_entry-last entries text at parts.1))
 
 -- so a free name's binding does
@@ -99,13 +105,17 @@ pub bindings_of-insert : (entries : List (String Global × AllocId)) (text : Str
     → string_bytes text ≡ name → is_bound (bindings_of entries) name ≡ false
     → bindings_of (insert_entry string_eq entries text at) ≡ bindings_of entries ++ (name, at) ∷ []
 bindings_of-insert entries text name at is free =
-    let parts = or_parts (bytes_eq name (codes "ROOT")) (list_any (λ (binding : List ℕ × AllocId). bytes_eq name binding.0) (map binding_of entries)) free in
-    let absent = subst (λ bs. list_any (λ (binding : List ℕ × AllocId). bytes_eq bs binding.0) (map binding_of entries) ≡ false) (sym is) parts.1 in
-    ap (λ more. root_binding ∷ more) (insert_entry-last entries text at absent ∙ ap (λ bs. map binding_of entries ++ (bs, at) ∷ []) is)
+    let parts = or_parts (bytes_eq name (codes "ROOT"))
+    (list_any (λ (binding : List ℕ × AllocId). bytes_eq name binding.0) (map binding_of entries)) free in
+    let absent = subst (λ bs. list_any (λ (binding : List ℕ × AllocId). bytes_eq bs binding.0) (map binding_of entries) ≡ false)
+    (sym is) parts.1 in
+    ap (λ more. root_binding ∷ more)
+    (insert_entry-last entries text at absent ∙ ap (λ bs. map binding_of entries ++ (bs, at) ∷ []) is)
 
 -- clones give the same bindings
 map-clone : (entries clones : List (String Global × AllocId))
-    → AllZip (λ p q. (string_bytes q.0 ≡ string_bytes p.0) × (q.1 ≡ p.1)) entries clones → map binding_of clones ≡ map binding_of entries
+    → AllZip (λ p q. (string_bytes q.0 ≡ string_bytes p.0) × (q.1 ≡ p.1)) entries clones
+    → map binding_of clones ≡ map binding_of entries
 map-clone [] [] same = refl
 map-clone [] (clone ∷ clones) same = absurd same
 map-clone (entry ∷ entries) [] same = absurd same
@@ -115,5 +125,6 @@ map-clone (entry ∷ entries) (clone ∷ clones) same =
 
 -- after that of the root too
 pub bindings_of-clone : (entries clones : List (String Global × AllocId))
-    → AllZip (λ p q. (string_bytes q.0 ≡ string_bytes p.0) × (q.1 ≡ p.1)) entries clones → bindings_of clones ≡ bindings_of entries
+    → AllZip (λ p q. (string_bytes q.0 ≡ string_bytes p.0) × (q.1 ≡ p.1)) entries clones
+    → bindings_of clones ≡ bindings_of entries
 bindings_of-clone entries clones same = ap (λ more. root_binding ∷ more) (map-clone entries clones same)

@@ -1,14 +1,16 @@
 -- A tree with its root alone.
-use Rattle.std.proofs.Common.{◌≡◌, ℕ, zero, suc, ◌<◌, ◌^◌, List, [], ◌∷◌, get_or, replicate, Option, Some, None, refl, sym, ap, subst, ◌∙◌}
+use Rattle.std.proofs.Common.{◌≡◌, ℕ, zero, suc, ◌≤◌, ◌-◌, List, [], ◌∷◌, get_or, replicate}
+use Rattle.std.proofs.Common.{Option, Some, None, refl}
+use Rattle.std.proofs.Common.{sym, ap, subst, ◌∙◌}
+use Rattle.mem_num.specs.declared.bounds.TheConstants.{MAX_LIMIT, MOST_ALLOCATORS}
 use Rattle.mem_model.specs.Chunk.{Chunk}
-use Rattle.mem_model.specs.declared.tree_node.TreeNode.{TreeNode}
 use Rattle.mem_model.specs.LawfulState.{IsLawfulState}
 use Rattle.mem_model.specs.TreeState.{TreeState, root_node, opened}
 use Rattle.mem_model.proofs.LawfulLemmas.{opened_lawful}
 use Rattle.alloc_tree.specs.declared.row.Row.{Row}
 use Rattle.alloc_tree.specs.Fields.{KeepsNumbers, state_with}
 use Rattle.alloc_tree.specs.Placed.{root_row, opened_rows}
-use Rattle.alloc_tree.specs.Rows.{nodes_from, nodes_in, kept_of, held_in, uses_in, peaks_in, peaks_of}
+use Rattle.alloc_tree.specs.Rows.{nodes_from, nodes_in, kept_of, held_by, uses_in, peaks_in, peaks_of}
 use Rattle.alloc_tree.proofs.OpenLemmas.{peaks_of-at}
 
 -- rows without an allocator
@@ -19,7 +21,7 @@ nodes_none first (suc n) = nodes_none (suc first) n
 
 pub nodes_opened : (limit : ℕ) → nodes_in (opened_rows limit) ≡ root_node limit ∷ []
 unfolding nodes_from
-nodes_opened limit = ap (λ xs. root_node limit ∷ xs) (nodes_none 1 63)
+nodes_opened limit = ap (λ xs. root_node limit ∷ xs) (nodes_none 1 (MOST_ALLOCATORS - 1))
 
 kept_none : (field : Row → ℕ) (n m : ℕ) → kept_of field (replicate n None) m ≡ 0
 kept_none field zero m = refl
@@ -29,9 +31,9 @@ kept_none field (suc n) (suc m) = kept_none field n m
 -- what is 0 for the root is 0 for all
 pub kept_opened : (field : Row → ℕ) (limit n : ℕ) → field (root_row limit) ≡ 0 → kept_of field (opened_rows limit) n ≡ 0
 kept_opened field limit zero none = none
-kept_opened field limit (suc n) none = kept_none field 63 n
+kept_opened field limit (suc n) none = kept_none field (MOST_ALLOCATORS - 1) n
 
-opened_held : (limit n : ℕ) → held_in (opened_rows limit) n ≡ 0
+opened_held : (limit n : ℕ) → held_by (opened_rows limit) n ≡ 0
 opened_held limit n = kept_opened (λ r. r.held) limit n refl
 
 opened_uses : (limit n : ℕ) → uses_in (opened_rows limit) n ≡ 0
@@ -42,15 +44,15 @@ pub only_none : {X : Type 0} (R : Option X → Type 0) → ((x : X) → R (Some 
 only_none R none None h = refl
 only_none R none (Some x) h = absurd (none x h)
 
-with_nodes : List TreeNode → List Chunk → TreeState
-with_nodes nodes chunks = record { nodes = nodes; chunks = chunks; next = 1; drawn = 0 }
-
-pub opened_is : (limit : ℕ) (rows : List (Option Row)) (chunks : List Chunk) → rows ≡ opened_rows limit → chunks ≡ [] → state_with rows chunks 1 0 ≡ opened limit
-unfolding with_nodes
-opened_is limit rows chunks rows_are chunks_are = ap (λ nodes. with_nodes nodes chunks) (ap nodes_in rows_are ∙ nodes_opened limit) ∙ ap (with_nodes (root_node limit ∷ [])) chunks_are
+pub opened_is : (limit : ℕ) (rows : List (Option Row)) (chunks : List Chunk) → rows ≡ opened_rows limit → chunks ≡ []
+    → state_with rows chunks 1 0 ≡ opened limit
+opened_is limit rows chunks rows_are chunks_are =
+    let nodes = ap nodes_in rows_are ∙ nodes_opened limit in
+    λ i. record { nodes = nodes i; chunks = chunks_are i; next = 1; drawn = 0 }
 
 -- such a tree is sound
-pub opened_sound : (limit : ℕ) (rows : List (Option Row)) (chunks : List Chunk) → limit < 2 ^ 63 → rows ≡ opened_rows limit → chunks ≡ [] → IsLawfulState (state_with rows chunks 1 0) × KeepsNumbers rows (state_with rows chunks 1 0)
+pub opened_sound : (limit : ℕ) (rows : List (Option Row)) (chunks : List Chunk) → limit ≤ MAX_LIMIT → rows ≡ opened_rows limit
+    → chunks ≡ [] → IsLawfulState (state_with rows chunks 1 0) × KeepsNumbers rows (state_with rows chunks 1 0)
 opened_sound limit rows chunks limited rows_are chunks_are =
     let state : state_with rows chunks 1 0 ≡ opened limit = opened_is limit rows chunks rows_are chunks_are in (
       subst IsLawfulState (sym state) (opened_lawful limit limited),

@@ -1,10 +1,10 @@
 -- The live chunks of a tree, as entries of a map.
-use Rattle.std.specs.Prelude.{ℕ, ◌<◌, ◌==◌, List, Option, AllPairs}
+use Rattle.std.specs.Prelude.{ℕ, List}
 use Rattle.std.specs.List.{find}
 use Rattle.std.specs.Option.{option_map_or}
 use Rattle.mem_num.specs.declared.alloc_id.AllocId.{AllocId}
 use Rattle.mem_num.specs.declared.buffer_ref.Ref.{Ref}
-use Rattle.mem_model.specs.Chunk.{Chunk, released, with_chunk}
+use Rattle.mem_model.specs.Chunk.{Chunk, chunk_at, released, with_chunk}
 use Rattle.mem_model.specs.References.{refers_to}
 use Rattle.mem_model.specs.Release.{after_release}
 use Rattle.ledger_map.specs.declared.after.After.{After}
@@ -14,14 +14,6 @@ use Rattle.ledger_map.specs.Release.{after_of}
 -- the chunk of this number, which has these ledgers
 abbrev pub chunk_of : ℕ × LedgerState → Chunk
 chunk_of entry = record { number = entry.0; size = entry.1.size; owner = entry.1.owner; ledgers = entry.1.ledgers }
-
--- chunks stand in order of number
-abbrev pub AreInOrder : List Chunk → Type 0
-AreInOrder chunks = AllPairs (λ older newer. older.number < newer.number) chunks
-
--- the chunk of the number n, if it is live
-abbrev pub chunk_at : List Chunk → ℕ → Option Chunk
-chunk_at chunks n = find (λ chunk. chunk.number == n) chunks
 
 -- the chunks with a change to the one of the number n, if it is live
 abbrev pub with_changed : (Chunk → Chunk) → ℕ → List Chunk → List Chunk

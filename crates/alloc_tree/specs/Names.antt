@@ -1,5 +1,6 @@
 -- The names of allocators, in order of binding. A name is a list of bytes.
-use Rattle.std.specs.Prelude.{◌≡◌, ◌≢◌, ℕ, Bool, true, ◌==◌, List, ◌∷◌, map, Option, codes, String, string_bytes, All, AllPairs}
+use Rattle.std.specs.Prelude.{◌≡◌, ◌≢◌, ℕ, Bool, true, ◌==◌, List, ◌∷◌, map, Option, codes, String, string_bytes}
+use Rattle.std.specs.Prelude.{All, AllPairs}
 use Rattle.std.specs.List.{find, list_any}
 use Rattle.std.specs.Option.{option_map}
 use Rattle.std.specs.Str.{bytes_eq}

@@ -4,11 +4,10 @@ use Rattle.std.specs.Option.{option_map_or}
 use Rattle.mem_num.specs.declared.alloc_id.AllocId.{AllocId}
 use Rattle.mem_num.specs.declared.buffer_ref.Ref.{Ref}
 use Rattle.mem_model.specs.declared.charge.Charge.{Charge}
-use Rattle.mem_model.specs.Chunk.{Chunk, with_chunk}
+use Rattle.mem_model.specs.Chunk.{Chunk, with_chunk, chunk_at}
 use Rattle.mem_model.specs.Force.{force_sample, is_within_limits}
 use Rattle.mem_model.specs.Transfer.{moves_charge}
 use Rattle.mem_model.specs.TreeState.{TreeState, CallResult, unchanged}
-use Rattle.alloc_tree.specs.Chunks.{chunk_at}
 
 -- the charge for a chunk is forced onto the target, and then goes at the owner
 abbrev pub taken_over : TreeState → AllocId → Chunk → CallResult Bool
@@ -25,4 +24,5 @@ take_over_from state source target chunk = if moves_charge source target chunk t
 
 -- a target that refers to the chunk of a reference already takes its charge over, where the source is charged
 abbrev pub take_over_result : TreeState → Ref → AllocId → CallResult Bool
-take_over_result state of target = option_map_or (take_over_from state of.alloc target) (chunk_at state.chunks of.chunk) (unchanged state true)
+take_over_result state of target = option_map_or (take_over_from state of.alloc target) (chunk_at state.chunks of.chunk)
+    (unchanged state true)

@@ -1,5 +1,6 @@
 -- What a walk from an allocator towards the root does to the rows.
-use Rattle.std.specs.Prelude.{◌≡◌, ℕ, ◌+◌, max, nat_lt, ◌==◌, Bool, true, false, not, is_some, if◌then◌else◌, List, ◌∷◌, [], length, Option, Some, None, Result, Ok, Err}
+use Rattle.std.specs.Prelude.{◌≡◌, ℕ, ◌+◌, max, nat_lt, ◌==◌, Bool, true, false, not, is_some, if◌then◌else◌, List}
+use Rattle.std.specs.Prelude.{◌∷◌, [], length, Option, Some, None, Result, Ok, Err}
 use Rattle.mem_num.specs.declared.alloc_id.AllocId.{AllocId}
 use Rattle.mem_num.specs.declared.full.Full.{Full}
 use Rattle.mem_model.specs.declared.charge.Charge.{Charge}
@@ -11,7 +12,7 @@ use Rattle.mem_model.specs.Request.{refusing_level, refusal_of}
 use Rattle.mem_model.specs.PeakSample.{PeakSample, request_sample}
 use Rattle.mem_model.specs.MeasuredTree.{raised_peaks}
 use Rattle.alloc_tree.specs.declared.row.Row.{Row}
-use Rattle.alloc_tree.specs.Rows.{nodes_in, held_in, peaks_in, uses_in}
+use Rattle.alloc_tree.specs.Rows.{nodes_in, held_by, peaks_in, uses_in}
 
 -- the allocators are the same ones, with as many uses
 pub record KeepsNodes (old new : List (Option Row)) : Type 0 where
@@ -22,7 +23,8 @@ pub record KeepsNodes (old new : List (Option Row)) : Type 0 where
 -- this is what a request is refused with, or None where it isn't
 abbrev pub IsRefusal : List TreeNode → List Charge → Charge → Option Full → Type 0
 IsRefusal nodes charges request None = refusing_level nodes charges request ≡ None
-IsRefusal nodes charges request (Some full) = (level : TreeNode) × (refusing_level nodes charges request ≡ Some level) × (full ≡ refusal_of nodes charges request level)
+IsRefusal nodes charges request (Some full) = (level : TreeNode) × (refusing_level nodes charges request ≡ Some level)
+    × (full ≡ refusal_of nodes charges request level)
 
 -- the moment of a charge that is forced, or of one on trial
 abbrev pub charge_sample : Bool → List TreeNode → List Charge → Charge → PeakSample
@@ -30,24 +32,26 @@ charge_sample true nodes charges charge = force_sample_of nodes charges charge
 charge_sample false nodes charges charge = request_sample nodes charges charge
 
 -- the rows hold a charge besides, also where it is refused, and its sample has raised the peaks
-pub record AddsCharge (is_forced : Bool) (charges : List Charge) (charge : Charge) (old new : List (Option Row)) (answer : Option Full) : Type 0 where
-  pub held : Balances (nodes_in old) (charge ∷ charges) (held_in new)
+pub record AddsCharge (is_forced : Bool) (charges : List Charge) (charge : Charge) (old new : List (Option Row))
+    (answer : Option Full) : Type 0 where
+  pub held : Balances (nodes_in old) (charge ∷ charges) (held_by new)
   pub refusal : IsRefusal (nodes_in old) charges charge answer
   pub peaks : peaks_in new ≡ raised_peaks (peaks_in old) (charge_sample is_forced (nodes_in old) charges charge ∷ [])
 
 -- the rows hold a forced charge besides, its sample has raised the peaks, and the answer tells whether no level is past its limit
 pub record ForcesCharge (charges : List Charge) (force : Charge) (old new : List (Option Row)) (answer : Bool) : Type 0 where
-  pub held : Balances (nodes_in old) (force ∷ charges) (held_in new)
+  pub held : Balances (nodes_in old) (force ∷ charges) (held_by new)
   pub fits : answer ≡ not (is_some (refusing_level (nodes_in old) charges force))
   pub peaks : peaks_in new ≡ raised_peaks (peaks_in old) (force_sample_of (nodes_in old) charges force ∷ [])
 
 -- the charges after are those before, but for an amount that went from one allocator to another
 abbrev pub MovesAmount : List Charge → List Charge → AllocId → AllocId → ℕ → Type 0
-MovesAmount before after from to amount = (n : ℕ) → charged_at before n + amount_for (Some to) amount n ≡ charged_at after n + amount_for (Some from) amount n
+MovesAmount before after from to amount = (n : ℕ) → charged_at before n + amount_for (Some to) amount n
+    ≡ charged_at after n + amount_for (Some from) amount n
 
 -- the rows hold an amount at another allocator than before, onto which it was forced first
 pub record MovesCharge (before after : List Charge) (force : Charge) (old new : List (Option Row)) (answer : Bool) : Type 0 where
-  pub held : Balances (nodes_in old) after (held_in new)
+  pub held : Balances (nodes_in old) after (held_by new)
   pub fits : answer ≡ not (is_some (refusing_level (nodes_in old) before force))
   pub peaks : peaks_in new ≡ raised_peaks (peaks_in old) (force_sample_of (nodes_in old) before force ∷ [])
 
@@ -62,8 +66,9 @@ refusal_in (Ok done) = None
 refusal_in (Err full) = Some full
 
 -- the rows answer a request, and its sample has raised the peaks
-pub record AnswersRequest (charges : List Charge) (request : Charge) (old new : List (Option Row)) (answer : Result (Unit {0}) Full) : Type 0 where
-  pub held : Balances (nodes_in old) (charges_after request charges answer) (held_in new)
+pub record AnswersRequest (charges : List Charge) (request : Charge) (old new : List (Option Row))
+    (answer : Result (Unit {0}) Full) : Type 0 where
+  pub held : Balances (nodes_in old) (charges_after request charges answer) (held_by new)
   pub refusal : IsRefusal (nodes_in old) charges request (refusal_in answer)
   pub peaks : peaks_in new ≡ raised_peaks (peaks_in old) (request_sample (nodes_in old) charges request ∷ [])
 

@@ -2,11 +2,13 @@
 ghost use Rattle.std.specs.Prelude.{◌≡◌, ◌≢◌, ℕ, ◌<◌, ◌≤◌, ◌^◌, [], ◌∷◌, ◌++◌, map, All, OnOk, OnErr};
 ghost use Rattle.std.specs.List.{find};
 ghost use Rattle.std.specs.Option.{ForSome, option_map};
+ghost use Rattle.mem_num.specs.declared.bounds.TheConstants.{LARGEST};
 ghost use Rattle.mem_model.specs.Chunk as model;
+ghost use Rattle.mem_model.specs.Chunk.{AreInNumberOrder, chunk_at};
 ghost use Rattle.mem_model.specs.Ledgers.{count_of, total_of};
 ghost use Rattle.mem_model.specs.References.{refers_to};
 ghost use Rattle.mem_model.specs.Release.{without_chunk};
-ghost use Rattle.alloc_tree.specs.Chunks.{AreInOrder, chunk_of, chunk_at, with_changed, after_of_release, without_reference};
+ghost use Rattle.alloc_tree.specs.Chunks.{chunk_of, with_changed, after_of_release, without_reference};
 
 use ledger_map::{After, Ledgers, ledgers_are_lawful};
 use mem_num::{AllocId, NoMemory, Ref};
@@ -24,15 +26,15 @@ pub(crate) struct Chunks {
 
 impl Model for Chunks {
     ghost use Rattle.std.specs.Prelude.{List, map};
-    ghost use Rattle.mem_model.specs.Chunk.{Chunk};
+    ghost use Rattle.mem_model.specs.Chunk.{AreInNumberOrder, Chunk};
     ghost use Rattle.ledger_map.specs.LedgerState.{LedgerState};
-    ghost use Rattle.alloc_tree.specs.Chunks.{chunk_of, AreInOrder};
+    ghost use Rattle.alloc_tree.specs.Chunks.{chunk_of};
 
     ghost Value = { List Chunk };
 
     ghost view = { λ chunks. map chunk_of chunks.by_number.entries };
 
-    ghost invariant = { λ chunks. AreInOrder (map chunk_of chunks.by_number.entries) };
+    ghost invariant = { λ chunks. AreInNumberOrder (map chunk_of chunks.by_number.entries) };
 }
 
 impl Chunks {
@@ -49,7 +51,7 @@ impl Chunks {
     pub fn push(&mut self, number: u32, size: u64, owner: AllocId) -> Result<(), NoMemory>
         requires last { All (λ chunk. chunk.number < number) self.old }
         requires some_bytes { 1 ≤ size }
-        requires few_bytes { size ≤ 2 ^ 30 }
+        requires few_bytes { size ≤ LARGEST }
         ensures pushed { OnOk result (self.new ≡ self.old ++ model.new_chunk number size owner ∷ []) }
         ensures err { OnErr result (self.new ≡ self.old) }
     {
@@ -63,7 +65,7 @@ impl Chunks {
     /// The ledgers of a chunk. Takes time by the logarithm of how many chunks are live.
     pub fn get(&self, number: u32) -> Option<&Ledgers>
         ensures chunk { option_map (λ ledgers. chunk_of (number, ledgers.now)) result ≡ chunk_at self.now number }
-        ensures ordered { AreInOrder self.now }
+        ensures ordered { AreInNumberOrder self.now }
     {
         self.by_number.get(&number)
     }

@@ -1,5 +1,5 @@
 //! The names of allocators, in order of binding.
-ghost use Rattle.std.specs.Prelude.{◌≡◌, ◌==◌, ◌+◌, ◌≤◌, ◌↔◌, [], ◌∷◌, ◌++◌, false, Err, IsSome, IsTrue, IfOk, OnOk};
+ghost use Rattle.std.specs.Prelude.{◌≡◌, ◌≢◌, ◌==◌, ◌+◌, ◌≤◌, ◌↔◌, [], ◌∷◌, ◌++◌, false, Err, IsSome, IsTrue, IfOk, OnOk};
 ghost use Rattle.std.specs.List.{find};
 ghost use Rattle.std.specs.Map.Iter.{deref_pair};
 ghost use Rattle.std.specs.Option.{option_copied, option_map};
@@ -9,7 +9,7 @@ ghost use Rattle.alloc_tree.specs.Names.{allocator_of, is_bound, is_named, name_
 use crate::name::Name;
 use crate::name_refused::NameRefused;
 use indexmap::IndexMap;
-use mem_num::{AllocId, NoMemory, is_name};
+use mem_num::{AllocId, NameText, NoMemory};
 use std::alloc::Global;
 use std::marker::Model;
 
@@ -61,9 +61,29 @@ impl Names {
         ensures kept { self.new.bindings ≡ self.old.bindings }
         ensures spare { self.old.spare ≤ self.new.spare }
     {
-        if !is_name(name.as_bytes()) {
-            return Err(NameRefused::BadName);
+        match NameText::new(name.as_bytes()) {
+            Some(name) => self.ready_name(&name),
+            None => Err(NameRefused::BadName),
         }
+    }
+
+    /// Makes a name ready, as `ready` does, where the caller has found that it is one.
+    pub fn ready_name(&mut self, name: &NameText) -> Result<Name, NameRefused>
+        // A name is refused exactly where it is bound.
+        ensures named { result ≢ Err NameRefused.BadName }
+        ensures taken { (result ≡ Err NameRefused.NameTaken) ↔ IsTrue (is_bound self.old.bindings name.now) }
+
+        // What is ready is the name, and can be bound at once.
+        ensures value { IfOk result (λ ready. ready ≡ name.now) }
+        ensures well_formed { OnOk result (IsTrue (is_name name.now)) }
+        ensures free { OnOk result (is_bound self.new.bindings name.now ≡ false) }
+        ensures room { OnOk result (1 ≤ self.new.spare) }
+
+        // Whatever the answer, no binding changes, and no room is lost.
+        ensures kept { self.new.bindings ≡ self.old.bindings }
+        ensures spare { self.old.spare ≤ self.new.spare }
+    {
+        let name = name.as_str();
         if self.find(name).is_some() {
             return Err(NameRefused::NameTaken);
         }

@@ -4,7 +4,7 @@ ghost use Rattle.mem_model.specs.declared.charge.Charge.{Charge};
 ghost use Rattle.mem_model.specs.Balance.{Balances, ExceedsByAmount, raised, lowered};
 ghost use Rattle.mem_model.specs.TreeNode.{IsAllocatorTree};
 ghost use Rattle.alloc_tree.specs.Placed.{opened_rows};
-ghost use Rattle.alloc_tree.specs.Rows.{nodes_in, held_in, peaks_in, uses_in, row_at, if_open, IsOpenAt, ChangesUses};
+ghost use Rattle.alloc_tree.specs.Rows.{nodes_in, held_by, peaks_in, uses_in, row_at, if_open, HoldCharges, IsOpenAt, ChangesUses};
 ghost use Rattle.alloc_tree.specs.Walk.{KeepsNodes, AnswersRequest, MovesAmount, MovesCharge};
 
 use crate::row::Row;
@@ -68,10 +68,10 @@ impl Rows {
     pub fn request(&mut self, at: AllocId, amount: u64) -> Result<(), Full>
         requires tree { IsAllocatorTree (nodes_in self.old) }
         requires open { IsOpenAt self.old at.0 }
-        requires fits { (n : ℕ) → held_in self.old n + amount < 2 ^ 64 }
-        requires balanced { (charges : List Charge) × Balances (nodes_in self.old) charges (held_in self.old) }
+        requires fits { (n : ℕ) → held_by self.old n + amount < 2 ^ 64 }
+        requires balanced { (charges : List Charge) × HoldCharges self.old charges }
         ensures kept { KeepsNodes self.old self.new }
-        ensures answers { (charges : List Charge) → Balances (nodes_in self.old) charges (held_in self.old)
+        ensures answers { (charges : List Charge) → HoldCharges self.old charges
             → AnswersRequest charges (record { at = at; amount = amount }) self.old self.new result }
     {
         walk::request(&mut self.rows, at, amount)
@@ -81,11 +81,11 @@ impl Rows {
     pub fn release(&mut self, at: AllocId, amount: u64)
         requires tree { IsAllocatorTree (nodes_in self.old) }
         requires open { IsOpenAt self.old at.0 }
-        requires covered { (charges : List Charge) × ExceedsByAmount (nodes_in self.old) charges (held_in self.old) (Some at) amount }
+        requires covered { (charges : List Charge) × ExceedsByAmount (nodes_in self.old) charges (held_by self.old) (Some at) amount }
         ensures kept { KeepsNodes self.old self.new }
         ensures peaks { peaks_in self.new ≡ peaks_in self.old }
-        ensures released { (charges : List Charge) → ExceedsByAmount (nodes_in self.old) charges (held_in self.old) (Some at) amount
-            → Balances (nodes_in self.old) charges (held_in self.new) }
+        ensures released { (charges : List Charge) → ExceedsByAmount (nodes_in self.old) charges (held_by self.old) (Some at) amount
+            → Balances (nodes_in self.old) charges (held_by self.new) }
     {
         walk::lower(&mut self.rows, at, amount);
     }
@@ -96,11 +96,11 @@ impl Rows {
         requires tree { IsAllocatorTree (nodes_in self.old) }
         requires from { IsOpenAt self.old from.0 }
         requires to { IsOpenAt self.old to.0 }
-        requires fits { (n : ℕ) → held_in self.old n + amount < 2 ^ 64 }
-        requires covered { (before : List Charge) × (after : List Charge) × Balances (nodes_in self.old) before (held_in self.old)
+        requires fits { (n : ℕ) → held_by self.old n + amount < 2 ^ 64 }
+        requires covered { (before : List Charge) × (after : List Charge) × HoldCharges self.old before
             × MovesAmount before after from to amount }
         ensures kept { KeepsNodes self.old self.new }
-        ensures moved { (before after : List Charge) → Balances (nodes_in self.old) before (held_in self.old)
+        ensures moved { (before after : List Charge) → HoldCharges self.old before
             → MovesAmount before after from to amount
             → MovesCharge before after (record { at = to; amount = amount }) self.old self.new result }
     {

@@ -1,10 +1,12 @@
 //! The tree of one thread.
-ghost use Rattle.std.specs.Prelude.{◌≡◌, ◌<◌, ◌^◌, IfOk, map};
+ghost use Rattle.std.specs.Prelude.{◌≡◌, ◌<◌, ◌≤◌, ◌^◌, IfOk, map};
 ghost use Rattle.std.specs.Option.{option_map};
+ghost use Rattle.mem_num.specs.declared.bounds.TheConstants.{MAX_LIMIT};
 ghost use Rattle.mem_model.specs.LawfulState.{IsLawfulState};
 ghost use Rattle.mem_model.specs.TreeState.{is_open};
 ghost use Rattle.mem_model.specs.MeasuredTree.{IsOpened, peak_at, placed_at};
-ghost use Rattle.alloc_tree.specs.Chunks.{chunk_of, chunk_at};
+ghost use Rattle.mem_model.specs.Chunk.{chunk_at};
+ghost use Rattle.alloc_tree.specs.Chunks.{chunk_of};
 ghost use Rattle.alloc_tree.specs.Counting.{count_after};
 
 mod child;
@@ -40,17 +42,17 @@ impl Model for SoloTree {
 
     ghost Value = { MeasuredTree };
 
-    ghost use Rattle.alloc_tree.specs.Fields.{tree_of, IsSound};
+    ghost use Rattle.alloc_tree.specs.Fields.{tree_of, IsSoundSolo};
 
     ghost view = { tree_of };
 
-    ghost invariant = { IsSound };
+    ghost invariant = { IsSoundSolo };
 }
 
 impl SoloTree {
     /// A tree with its root alone, which may hold `root_limit` bytes. Takes the memory of all allocators.
     pub fn open(alloc: Global, root_limit: u64) -> Result<SoloTree, NoMemory>
-        requires limit { root_limit < 2 ^ 63 }
+        requires limit { root_limit ≤ MAX_LIMIT }
         ensures opened { IfOk result (IsOpened root_limit) }
     {
         let Ok(rows) = Rows::opened(alloc, root_limit) else {

@@ -3,12 +3,12 @@ ghost use Rattle.std.specs.Prelude.{◌≡◌, ℕ, ◌+◌, ◌<◌, ◌^◌, L
 ghost use Rattle.mem_model.specs.declared.charge.Charge.{Charge};
 ghost use Rattle.mem_model.specs.TreeNode.{IsAllocatorTree};
 ghost use Rattle.mem_model.specs.Balance.{Balances, ExceedsByAmount};
-ghost use Rattle.mem_model.specs.Reservation.{beyond_reservation};
-ghost use Rattle.alloc_tree.specs.Rows.{nodes_in, held_in, peaks_in, row_at, IsOpenAt};
+ghost use Rattle.alloc_tree.specs.Rows.{nodes_in, held_by, peaks_in, row_at, HoldCharges, IsOpenAt};
 ghost use Rattle.alloc_tree.specs.Walk.{KeepsNodes, AddsCharge, AnswersRequest, MovesCharge, ForcesCharge, MovesAmount, charge_sample, peak_refusal, refusal_after, with_charge};
 
 use crate::row::Row;
 use crate::uses::row_of;
+use mem_model::beyond_reservation;
 use mem_num::{AllocId, Full};
 
 /// Requests a charge at an allocator. One that is refused is undone by one release where it began. After
@@ -16,10 +16,10 @@ use mem_num::{AllocId, Full};
 pub(crate) fn request(rows: &mut [Option<Row>], at: AllocId, amount: u64) -> Result<(), Full>
     requires tree { IsAllocatorTree (nodes_in rows.old) }
     requires open { IsOpenAt rows.old at.0 }
-    requires fits { (n : ℕ) → held_in rows.old n + amount < 2 ^ 64 }
-    requires balanced { (charges : List Charge) × Balances (nodes_in rows.old) charges (held_in rows.old) }
+    requires fits { (n : ℕ) → held_by rows.old n + amount < 2 ^ 64 }
+    requires balanced { (charges : List Charge) × HoldCharges rows.old charges }
     ensures kept { KeepsNodes rows.old rows.new }
-    ensures answers { (charges : List Charge) → Balances (nodes_in rows.old) charges (held_in rows.old)
+    ensures answers { (charges : List Charge) → HoldCharges rows.old charges
         → AnswersRequest charges (record { at = at; amount = amount }) rows.old rows.new result }
 {
     match raise(rows, at, amount, false) {
@@ -36,9 +36,9 @@ pub(crate) fn request(rows: &mut [Option<Row>], at: AllocId, amount: u64) -> Res
 pub(crate) fn force(rows: &mut [Option<Row>], at: AllocId, amount: u64) -> bool
     requires tree { IsAllocatorTree (nodes_in rows.old) }
     requires open { IsOpenAt rows.old at.0 }
-    requires fits { (n : ℕ) → held_in rows.old n + amount < 2 ^ 64 }
+    requires fits { (n : ℕ) → held_by rows.old n + amount < 2 ^ 64 }
     ensures kept { KeepsNodes rows.old rows.new }
-    ensures forced { (charges : List Charge) → Balances (nodes_in rows.old) charges (held_in rows.old)
+    ensures forced { (charges : List Charge) → HoldCharges rows.old charges
         → ForcesCharge charges (record { at = at; amount = amount }) rows.old rows.new result }
 {
     raise(rows, at, amount, true).is_none()
@@ -50,11 +50,11 @@ pub(crate) fn move_charge(rows: &mut [Option<Row>], from: AllocId, to: AllocId, 
     requires tree { IsAllocatorTree (nodes_in rows.old) }
     requires from { IsOpenAt rows.old from.0 }
     requires to { IsOpenAt rows.old to.0 }
-    requires fits { (n : ℕ) → held_in rows.old n + amount < 2 ^ 64 }
-    requires covered { (before : List Charge) × (after : List Charge) × Balances (nodes_in rows.old) before (held_in rows.old)
+    requires fits { (n : ℕ) → held_by rows.old n + amount < 2 ^ 64 }
+    requires covered { (before : List Charge) × (after : List Charge) × HoldCharges rows.old before
         × MovesAmount before after from to amount }
     ensures kept { KeepsNodes rows.old rows.new }
-    ensures moved { (before after : List Charge) → Balances (nodes_in rows.old) before (held_in rows.old)
+    ensures moved { (before after : List Charge) → HoldCharges rows.old before
         → MovesAmount before after from to amount
         → MovesCharge before after (record { at = to; amount = amount }) rows.old rows.new result }
 {
@@ -74,9 +74,9 @@ pub(crate) fn raise(
 ) -> Option<Full>
     requires tree { IsAllocatorTree (nodes_in rows.old) }
     requires open { IsOpenAt rows.old at.0 }
-    requires fits { (n : ℕ) → held_in rows.old n + amount < 2 ^ 64 }
+    requires fits { (n : ℕ) → held_by rows.old n + amount < 2 ^ 64 }
     ensures kept { KeepsNodes rows.old rows.new }
-    ensures charged { (charges : List Charge) → Balances (nodes_in rows.old) charges (held_in rows.old)
+    ensures charged { (charges : List Charge) → HoldCharges rows.old charges
         → AddsCharge is_forced charges (record { at = at; amount = amount }) rows.old rows.new result }
 {
     let mut refusal = None;
@@ -99,11 +99,11 @@ pub(crate) fn raise(
 pub(crate) fn lower(rows: &mut [Option<Row>], at: AllocId, amount: u64)
     requires tree { IsAllocatorTree (nodes_in rows.old) }
     requires open { IsOpenAt rows.old at.0 }
-    requires covered { (charges : List Charge) × ExceedsByAmount (nodes_in rows.old) charges (held_in rows.old) (Some at) amount }
+    requires covered { (charges : List Charge) × ExceedsByAmount (nodes_in rows.old) charges (held_by rows.old) (Some at) amount }
     ensures kept { KeepsNodes rows.old rows.new }
     ensures peaks { peaks_in rows.new ≡ peaks_in rows.old }
-    ensures released { (charges : List Charge) → ExceedsByAmount (nodes_in rows.old) charges (held_in rows.old) (Some at) amount
-        → Balances (nodes_in rows.old) charges (held_in rows.new) }
+    ensures released { (charges : List Charge) → ExceedsByAmount (nodes_in rows.old) charges (held_by rows.old) (Some at) amount
+        → Balances (nodes_in rows.old) charges (held_by rows.new) }
 {
     let mut level = at;
     let mut pending = amount;
@@ -154,11 +154,4 @@ fn with_charge(row: Row, amount: u64, is_forced: bool, refusal: Option<Full>) ->
         row.peak
     };
     Row { held, peak, ..row }
-}
-
-// How much more a parent counts once a child's bytes have risen from `low` to `high`.
-fn beyond_reservation(reservation: u64, low: u64, high: u64) -> u64
-    ensures { result ≡ beyond_reservation reservation low high }
-{
-    high.max(reservation).saturating_sub(low.max(reservation))
 }

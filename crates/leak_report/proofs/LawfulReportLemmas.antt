@@ -14,7 +14,7 @@ use Rattle.mem_model.specs.LawfulState.{IsLawfulState}
 use Rattle.mem_model.specs.Reservation.{counted_at_parent}
 use Rattle.mem_model.specs.TreeNode.{IsAllocatorTree, IsParentOf, HasParentUnlessRoot, is_open_child, is_number}
 use Rattle.mem_model.specs.TreeState.{TreeState}
-use Rattle.leak_report.specs.LawfulReport.{IsLawful, IsLawfulReport, IsPrintedName, node_of, nodes_of}
+use Rattle.leak_report.specs.LawfulReport.{IsLawful, IsLawfulReport, IsPrintedName, printed_node, nodes_of}
 use Rattle.leak_report.specs.PrintableTree.{IsPrintable}
 use Rattle.leak_report.specs.Report.{PrintedAllocator, open_nodes, printed_allocator, printed_text, report_of}
 use Rattle.leak_report.specs.ReportText.{chunks_text, report_text}
@@ -22,17 +22,17 @@ use Rattle.leak_report.proofs.PrintLemmas.{printed_nodes, tree_text-printed}
 use Rattle.leak_report.proofs.PrintableLemmas.{NumbersFit-report_of, name_in-printed}
 
 -- an open allocator is printed as the node that it is
-node_of-printed : (names : List (List (List ℕ × AllocId))) (peaks : ℕ → ℕ) (state : TreeState) (e : TreeNode) → e.closed ≡ false → node_of (printed_allocator names peaks state e) ≡ e
+node_of-printed : (names : List (List (List ℕ × AllocId))) (peaks : ℕ → ℕ) (state : TreeState) (e : TreeNode) → e.closed ≡ false → printed_node (printed_allocator names peaks state e) ≡ e
 node_of-printed names peaks state e open_ =
     ap (λ (b : Bool). let node : TreeNode = record { number = e.number; parent = e.parent; reservation = e.reservation; limit = e.limit; closed = b } in node) (sym open_)
 
 -- so are all
-nodes_of-printed : (names : List (List (List ℕ × AllocId))) (peaks : ℕ → ℕ) (state : TreeState) (nodes : List TreeNode) → map node_of (printed_nodes names peaks state nodes) ≡ open_nodes nodes
+nodes_of-printed : (names : List (List (List ℕ × AllocId))) (peaks : ℕ → ℕ) (state : TreeState) (nodes : List TreeNode) → map printed_node (printed_nodes names peaks state nodes) ≡ open_nodes nodes
 nodes_of-printed names peaks state [] = refl
 nodes_of-printed names peaks state (e ∷ nodes) =
     let rest = nodes_of-printed names peaks state nodes in
     elim (cases_Bool (not e.closed)) [
-      | inl open_ ↦ rw open_ (ap (λ x. x ∷ map node_of (printed_nodes names peaks state nodes)) (node_of-printed names peaks state e (not-true e.closed open_)) ∙ ap (λ xs. e ∷ xs) rest)
+      | inl open_ ↦ rw open_ (ap (λ x. x ∷ map printed_node (printed_nodes names peaks state nodes)) (node_of-printed names peaks state e (not-true e.closed open_)) ∙ ap (λ xs. e ∷ xs) rest)
       | inr closed ↦ rw closed rest
     ]
 

@@ -1,5 +1,5 @@
 -- Allocators that are added one by one stand in order of number.
-use Rattle.std.proofs.Common.{◌≡◌, ◌≢◌, ℕ, zero, suc, ◌+◌, ◌<◌, ◌≤◌, ◌==◌, List, [], ◌∷◌, ◌++◌, Bool, true, false, All, if◌then◌else◌, cond, fold, nat_lt, get_or, refl, sym, ap, subst, ◌∙◌, arith, inl, inr, ◌⊎◌}
+use Rattle.std.proofs.Common.{◌≡◌, ℕ, suc, ◌<◌, ◌==◌, List, [], ◌∷◌, Bool, true, false, All, if◌then◌else◌, cond, fold, nat_lt, get_or, refl, sym, ap, subst, ◌∙◌, arith, inl, inr, ◌⊎◌}
 use Rattle.std.specs.Prelude.{count_by, insert}
 use Rattle.std.specs.List.{list_any}
 use Rattle.std.proofs.lemmas.Bool.{cases_Bool, cond-true, eqb-true, true≢false}
@@ -10,7 +10,7 @@ use Rattle.std.proofs.lemmas.List.Sums.{sum_by-cons}
 use Rattle.mem_model.proofs.OpenLemmas.{count_none}
 use Rattle.leak_report.specs.ReadReport.{with_allocator}
 use Rattle.leak_report.specs.Report.{PrintedAllocator}
-use Rattle.leak_report.proofs.MemberLemmas.{IsOf, NumbersRise, All-of, rise_behind, rise_tail}
+use Rattle.leak_report.proofs.MemberLemmas.{IsOf, NumbersRise, rise_behind, rise_tail}
 
 -- whether an allocator has a smaller number than another
 abbrev pub is_before : PrintedAllocator → PrintedAllocator → Bool

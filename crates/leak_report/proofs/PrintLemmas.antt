@@ -12,7 +12,7 @@ use Rattle.mem_model.specs.TreeNode.{IsAllocatorTree, is_open_child, is_number}
 use Rattle.mem_model.specs.TreeState.{TreeState}
 use Rattle.mem_model.proofs.HeldLemmas.{IsOlderTree, older_from_tree}
 use Rattle.leak_report.specs.TreeText.{tree_text, placed_text, lines_under}
-use Rattle.leak_report.specs.Report.{PrintedAllocator, lines_of, line_of, tree_line_text, has_parent, printed_allocator, open_nodes}
+use Rattle.leak_report.specs.Report.{PrintedAllocator, tree_lines_of, tree_line_of, tree_line_text, has_parent, printed_allocator, open_nodes}
 use Rattle.leak_report.proofs.TextLemmas.{HasOlderParent, child_same}
 
 -- what some nodes of a tree are printed as: the open ones, with names and numbers
@@ -21,13 +21,13 @@ printed_nodes names peaks state nodes = map (printed_allocator names peaks state
 
 -- the lines of those with this parent, as text
 abbrev flat_lines : List PrintedAllocator → ℕ → Option AllocId → List ℕ
-flat_lines printed depth parent = flat_map tree_line_text (lines_of printed depth parent)
+flat_lines printed depth parent = flat_map tree_line_text (tree_lines_of printed depth parent)
 
 -- the lines of a child, of those below it, and of the others, as text
 flat_lines-child : (a : PrintedAllocator) (later : List PrintedAllocator) (depth : ℕ) (parent : Option AllocId) → has_parent parent a ≡ true
-    → flat_lines (a ∷ later) depth parent ≡ (tree_line_text (line_of depth a) ++ flat_lines later (depth + 1) (Some a.number)) ++ flat_lines later depth parent
+    → flat_lines (a ∷ later) depth parent ≡ (tree_line_text (tree_line_of depth a) ++ flat_lines later (depth + 1) (Some a.number)) ++ flat_lines later depth parent
 flat_lines-child a later depth parent child =
-    rw child (flat_map-append tree_line_text (line_of depth a ∷ lines_of later (depth + 1) (Some a.number)) (lines_of later depth parent))
+    rw child (flat_map-append tree_line_text (tree_line_of depth a ∷ tree_lines_of later (depth + 1) (Some a.number)) (tree_lines_of later depth parent))
 
 -- the lines under an allocator are those of its open children
 lines_under-printed : (names : List (List (List ℕ × AllocId))) (peaks : ℕ → ℕ) (state : TreeState) (nodes : List TreeNode) (depth : ℕ) (at : AllocId) → IsOlderTree nodes
@@ -46,8 +46,8 @@ lines_under-printed names peaks state (e ∷ nodes) depth at older =
       | inr open_ ↦ elim (cases_Bool (is_number at.0 e.parent)) [
         | inl child ↦ (
             let is : is_open_child at.0 e ≡ true = and_from (is_number at.0 e.parent) (not e.closed) child (not_from_false e.closed open_) in
-            rw (same ∙ is, open_) (ap (λ xs. (tree_line_text (line_of depth p) ++ xs) ++ lines_under names (map (placed_node peaks state) nodes) depth at.0) below
-            ∙ ap (λ ys. (tree_line_text (line_of depth p) ++ flat_lines later (depth + 1) (Some e.number)) ++ ys) rest
+            rw (same ∙ is, open_) (ap (λ xs. (tree_line_text (tree_line_of depth p) ++ xs) ++ lines_under names (map (placed_node peaks state) nodes) depth at.0) below
+            ∙ ap (λ ys. (tree_line_text (tree_line_of depth p) ++ flat_lines later (depth + 1) (Some e.number)) ++ ys) rest
             ∙ sym (flat_lines-child p later depth (Some at) child)))
         | inr other ↦ rw (same ∙ and_left (is_number at.0 e.parent) (not e.closed) other, open_, other) rest
       ]
@@ -76,7 +76,7 @@ first_is_root e rest tree = elim (cases_parent e.parent) [
 ]
 
 -- where all have a parent, none is the root
-no_root_lines : (xs : List PrintedAllocator) (depth : ℕ) → All (λ x. is_none x.parent ≡ false) xs → lines_of xs depth None ≡ []
+no_root_lines : (xs : List PrintedAllocator) (depth : ℕ) → All (λ x. is_none x.parent ≡ false) xs → tree_lines_of xs depth None ≡ []
 no_root_lines [] depth some = refl
 no_root_lines (x ∷ xs) depth some =
     rw (All-head (λ y. is_none y.parent ≡ false) x xs some) (no_root_lines xs depth (All-tail (λ y. is_none y.parent ≡ false) x xs some))
@@ -111,9 +111,9 @@ rooted_text names peaks state (e ∷ rest) tree =
     elim (cases_Bool e.closed) [
       | inl closed ↦ rw (eq-eqb e.number.0 0 is_root, closed) (sym others_text)
       | inr open_ ↦ rw (eq-eqb e.number.0 0 is_root, same ∙ no_child, open_) (
-          ap (λ xs. tree_line_text (line_of 0 p) ++ xs) below
-          ∙ sym (append-nil (tree_line_text (line_of 0 p) ++ flat_lines later 1 (Some e.number)))
-          ∙ ap (λ xs. (tree_line_text (line_of 0 p) ++ flat_lines later 1 (Some e.number)) ++ xs) (sym others_text)
+          ap (λ xs. tree_line_text (tree_line_of 0 p) ++ xs) below
+          ∙ sym (append-nil (tree_line_text (tree_line_of 0 p) ++ flat_lines later 1 (Some e.number)))
+          ∙ ap (λ xs. (tree_line_text (tree_line_of 0 p) ++ flat_lines later 1 (Some e.number)) ++ xs) (sym others_text)
           ∙ sym (flat_lines-child p later 0 None (ap is_none none)))
     ]
 

@@ -1,5 +1,5 @@
 -- A lawful tree is printed with names that are names and with numbers that fit.
-use Rattle.std.proofs.Common.{◌≡◌, ℕ, ◌+◌, ◌-◌, ◌*◌, ◌<◌, ◌≤◌, ◌^◌, ◌==◌, List, [], ◌∷◌, map, get_or, take, drop, length, true, false, not, All, refl, subst, sym, arith, inl, inr}
+use Rattle.std.proofs.Common.{◌≡◌, ℕ, ◌-◌, ◌<◌, ◌≤◌, ◌^◌, ◌==◌, List, [], ◌∷◌, map, get_or, take, drop, length, true, not, All, refl, subst, sym, arith, inl, inr}
 use Rattle.std.specs.Option.{unwrap_or}
 use Rattle.std.proofs.lemmas.Bool.{cases_Bool}
 use Rattle.std.proofs.lemmas.List.Elements.{All-cons, All-filter, All-head, All-map, All-tail}
@@ -10,14 +10,14 @@ use Rattle.mem_model.specs.declared.tree_node.TreeNode.{TreeNode}
 use Rattle.mem_model.specs.Chunk.{Chunk}
 use Rattle.mem_model.specs.Ledgers.{total_of}
 use Rattle.mem_model.specs.LawfulState.{IsLawfulState}
-use Rattle.mem_model.specs.TreeState.{TreeState, charges_in, held_at}
+use Rattle.mem_model.specs.TreeState.{TreeState, charges_in}
 use Rattle.mem_model.proofs.BoundLemmas.{held_of_bound}
 use Rattle.mem_model.proofs.LawfulBoundLemmas.{all_of-lawful, chunks_few}
 use Rattle.alloc_tree.specs.Names.{NamesState, name_of, AreNames}
 use Rattle.mem_num.specs.Name.{is_name}
 use Rattle.leak_report.specs.LawfulReport.{AllocatorFits, IsPrintedName, NumbersFit}
 use Rattle.leak_report.specs.PrintableTree.{IsPrintable}
-use Rattle.leak_report.specs.Report.{PrintedAllocator, open_nodes, printed_allocator, report_of}
+use Rattle.leak_report.specs.Report.{open_nodes, printed_allocator, report_of}
 use Rattle.leak_report.specs.TreeText.{name_in}
 use Rattle.leak_report.proofs.FrontLemmas.{front_rest}
 

@@ -1,5 +1,5 @@
 -- A lawful report is read back from its text, so no two have the same.
-use Rattle.std.proofs.Common.{◌≡◌, ℕ, ◌+◌, ◌-◌, ◌<◌, ◌≤◌, ◌^◌, ◌==◌, List, [], ◌∷◌, ◌++◌, take, drop, length, Bool, true, false, get_or, map, All, Option, None, Some, nat_lt, append_assoc, refl, sym, ap, subst, ◌∙◌, arith, inl, inr}
+use Rattle.std.proofs.Common.{◌≡◌, ℕ, ◌+◌, ◌-◌, ◌<◌, ◌≤◌, ◌^◌, ◌==◌, List, [], ◌∷◌, ◌++◌, take, drop, length, Bool, true, false, get_or, All, Option, None, Some, nat_lt, append_assoc, refl, sym, ap, subst, ◌∙◌, arith, inl, inr}
 use Rattle.std.specs.List.{filter_map, flat_map, list_any, AllByRecursion}
 use Rattle.std.proofs.lemmas.List.Concat.{flat_map-append}
 use Rattle.std.proofs.lemmas.Bool.{cases_Bool, eqb-true}
@@ -8,12 +8,11 @@ use Rattle.std.proofs.lemmas.List.Elements.{All-head, All-tail, recursion_from_A
 use Rattle.std.proofs.lemmas.List.Sums.{sum_by-cons}
 use Rattle.mem_num.specs.declared.alloc_id.AllocId.{AllocId}
 use Rattle.mem_model.specs.declared.ledger.Ledger.{Ledger}
-use Rattle.mem_model.specs.Chunk.{Chunk}
+use Rattle.mem_model.specs.Chunk.{Chunk, references_of}
 use Rattle.mem_model.specs.Ledgers.{count_at, count_of}
 use Rattle.leak_report.specs.LawfulReport.{AllocatorFits, IsLawful, IsLawfulReport, IsPrintedName, is_printed}
 use Rattle.leak_report.specs.ReadReport.{chunk_in, lines_in, read_report, report_with, tree_line_in, with_lines}
-use Rattle.leak_report.specs.Report.{PrintedAllocator, Report, has_parent, head_of, line_of, lines_of, lines_text, printed_text, tail_of, tree_line_text}
-use Rattle.leak_report.specs.ReportText.{references_of}
+use Rattle.leak_report.specs.Report.{PrintedAllocator, Report, has_parent, head_of, tree_line_of, tree_lines_of, lines_text, printed_text, tail_of, tree_line_text}
 use Rattle.leak_report.specs.TreeText.{indent}
 use Rattle.leak_report.proofs.FrontLemmas.{front_rest}
 use Rattle.leak_report.proofs.LineLemmas.{IsFineChunk, IsFineLedger, IsFineLine}
@@ -31,12 +30,12 @@ record IsFine (printed : PrintedAllocator) : Type 0 where
   fits : AllocatorFits printed
 
 -- its line is fine
-fine_line : (depth : ℕ) (x : PrintedAllocator) → IsFine x → IsFineLine (line_of depth x)
+fine_line : (depth : ℕ) (x : PrintedAllocator) → IsFine x → IsFineLine (tree_line_of depth x)
 fine_line depth x fine =
     record { number = fine.fits.number; name = fine.name; reservation = fine.fits.reservation; held = fine.fits.held; peak = fine.fits.peak; limit = fine.fits.limit }
 
 -- so are the lines of all
-fine_lines : (xs : List PrintedAllocator) (depth : ℕ) (parent : Option AllocId) → All IsFine xs → AllByRecursion IsFineLine (lines_of xs depth parent)
+fine_lines : (xs : List PrintedAllocator) (depth : ℕ) (parent : Option AllocId) → All IsFine xs → AllByRecursion IsFineLine (tree_lines_of xs depth parent)
 fine_lines [] depth parent fine = tt
 fine_lines (x ∷ later) depth parent fine =
     let behind = All-tail IsFine x later fine in
@@ -44,7 +43,7 @@ fine_lines (x ∷ later) depth parent fine =
     elim (cases_Bool (has_parent parent x)) [
       | inl child ↦ rw child (
         fine_line depth x (All-head IsFine x later fine),
-        by_recursion-append IsFineLine (lines_of later (depth + 1) (Some x.number)) (lines_of later depth parent) (fine_lines later (depth + 1) (Some x.number) behind) rest,
+        by_recursion-append IsFineLine (tree_lines_of later (depth + 1) (Some x.number)) (tree_lines_of later depth parent) (fine_lines later (depth + 1) (Some x.number) behind) rest,
       )
       | inr other ↦ rw other rest
     ]
@@ -88,7 +87,7 @@ fine_chunks report lawful k d within =
 -- a lawful report is read back
 pub read_report-lawful : (report : Report) → IsLawful report → read_report (printed_text report) ≡ report
 read_report-lawful report lawful =
-    let lines = lines_of report.allocators 0 None in
+    let lines = tree_lines_of report.allocators 0 None in
     let fine = fine_lines report.allocators 0 None (λ k d within. record { name = lawful.names k d within; fits = lawful.numbers.allocators k d within }) in
     let fine' = recursion_from_All IsFineChunk report.chunks (fine_chunks report lawful) in
     let text = lines_in-report lines report.chunks report.references fine fine' lawful.numbers.references in
@@ -103,21 +102,21 @@ pub same_report : (one other : Report) → IsLawful one → IsLawful other → p
 same_report one other lawful lawful' same = sym (read_report-lawful one lawful) ∙ ap read_report same ∙ read_report-lawful other lawful'
 
 -- the lines of allocators as text, one by one
-pub lines_text-lines_of : (xs : List PrintedAllocator) (depth : ℕ) (parent : Option AllocId) → lines_text xs depth parent ≡ flat_map tree_line_text (lines_of xs depth parent)
-lines_text-lines_of [] depth parent = refl
-lines_text-lines_of (x ∷ later) depth parent =
-    let rest = lines_text-lines_of later depth parent in
-    let below = lines_text-lines_of later (depth + 1) (Some x.number) in
+pub lines_text-tree_lines_of : (xs : List PrintedAllocator) (depth : ℕ) (parent : Option AllocId) → lines_text xs depth parent ≡ flat_map tree_line_text (tree_lines_of xs depth parent)
+lines_text-tree_lines_of [] depth parent = refl
+lines_text-tree_lines_of (x ∷ later) depth parent =
+    let rest = lines_text-tree_lines_of later depth parent in
+    let below = lines_text-tree_lines_of later (depth + 1) (Some x.number) in
     elim (cases_Bool (has_parent parent x)) [
       | inl child ↦ rw child (
-          (λ i. (tree_line_text (line_of depth x) ++ below i) ++ rest i)
-          ∙ sym (flat_map-append tree_line_text (line_of depth x ∷ lines_of later (depth + 1) (Some x.number)) (lines_of later depth parent)))
+          (λ i. (tree_line_text (tree_line_of depth x) ++ below i) ++ rest i)
+          ∙ sym (flat_map-append tree_line_text (tree_line_of depth x ∷ tree_lines_of later (depth + 1) (Some x.number)) (tree_lines_of later depth parent)))
       | inr other ↦ rw other rest
     ]
 
 -- the pieces of a line, one behind the other
 pub line_joined : (depth : ℕ) (printed : PrintedAllocator) (before one two three four : List ℕ) → one ≡ before ++ indent depth → two ≡ one ++ head_of printed → three ≡ two ++ printed.name → four ≡ three ++ tail_of printed
-    → four ≡ before ++ tree_line_text (line_of depth printed)
+    → four ≡ before ++ tree_line_text (tree_line_of depth printed)
 line_joined depth printed before one two three four first second third fourth =
     fourth ∙ ap (λ xs. xs ++ tail_of printed) (third ∙ ap (λ xs. xs ++ printed.name) (second ∙ ap (λ xs. xs ++ head_of printed) first)) ∙ simp append_assoc
 
@@ -127,15 +126,15 @@ some_counted n passed = grind (arith, nat_tests)
 
 -- the lines of a child, of those below it, and of the others, one behind the other
 pub child_joined : (xs : List PrintedAllocator) (x : PrintedAllocator) (depth : ℕ) (parent : Option AllocId) (number : AllocId) (before one two three : List ℕ) → x ≡ get_or xs 0 x → 1 ≤ length xs
-    → true ≡ has_parent parent x → number ≡ x.number → one ≡ before ++ tree_line_text (line_of depth x) → two ≡ one ++ lines_text (take (length xs - 1) (drop 1 xs)) (depth + 1) (Some number)
+    → true ≡ has_parent parent x → number ≡ x.number → one ≡ before ++ tree_line_text (tree_line_of depth x) → two ≡ one ++ lines_text (take (length xs - 1) (drop 1 xs)) (depth + 1) (Some number)
     → three ≡ two ++ lines_text (take (length xs - 1) (drop 1 xs)) depth parent → three ≡ before ++ lines_text xs depth parent
 child_joined xs x depth parent number before one two three is some child named first second third =
     let later = take (length xs - 1) (drop 1 xs) in
-    let whole : lines_text (x ∷ later) depth parent ≡ (tree_line_text (line_of depth x) ++ lines_text later (depth + 1) (Some x.number)) ++ lines_text later depth parent = rw (sym child) refl in
+    let whole : lines_text (x ∷ later) depth parent ≡ (tree_line_text (tree_line_of depth x) ++ lines_text later (depth + 1) (Some x.number)) ++ lines_text later depth parent = rw (sym child) refl in
     third ∙ ap (λ ys. ys ++ lines_text later depth parent) (second ∙ (λ i. first i ++ lines_text later (depth + 1) (Some (named i))))
-    ∙ append_assoc (before ++ tree_line_text (line_of depth x)) (lines_text later (depth + 1) (Some x.number)) (lines_text later depth parent)
-    ∙ append_assoc before (tree_line_text (line_of depth x)) (lines_text later (depth + 1) (Some x.number) ++ lines_text later depth parent)
-    ∙ ap (λ ys. before ++ ys) (sym (append_assoc (tree_line_text (line_of depth x)) (lines_text later (depth + 1) (Some x.number)) (lines_text later depth parent))
+    ∙ append_assoc (before ++ tree_line_text (tree_line_of depth x)) (lines_text later (depth + 1) (Some x.number)) (lines_text later depth parent)
+    ∙ append_assoc before (tree_line_text (tree_line_of depth x)) (lines_text later (depth + 1) (Some x.number) ++ lines_text later depth parent)
+    ∙ ap (λ ys. before ++ ys) (sym (append_assoc (tree_line_text (tree_line_of depth x)) (lines_text later (depth + 1) (Some x.number)) (lines_text later depth parent))
     ∙ sym whole ∙ ap (λ ys. lines_text ys depth parent) (sym (front_rest xs x is some)))
 
 -- another has no lines here

@@ -1,20 +1,19 @@
 -- The lines of a report's text, one by one.
-use Rattle.std.proofs.Common.{◌≡◌, ℕ, zero, suc, ◌+◌, ◌<◌, ◌^◌, ◌==◌, List, [], ◌∷◌, ◌++◌, Bool, true, false, not, ◌&&◌, ◌||◌, Option, Some, None, All, filter, map, refl, sym, ap, subst, ◌∙◌, arith, inl, inr, codes, append_assoc}
+use Rattle.std.proofs.Common.{◌≡◌, ℕ, zero, suc, ◌<◌, ◌^◌, ◌==◌, List, [], ◌∷◌, ◌++◌, Bool, true, not, Option, Some, None, filter, map, refl, sym, ap, ◌∙◌, arith, inl, inr, codes, append_assoc}
 use Rattle.std.specs.Fmt.{decimal}
-use Rattle.std.specs.List.{filter_map, flat_map, list_all, slice_split, AllByRecursion}
+use Rattle.std.specs.List.{filter_map, flat_map, list_all, AllByRecursion}
 use Rattle.std.proofs.lemmas.Bool.{and_from, and_parts, cases_Bool, eqb-true, not-true, true≢false}
 use Rattle.std.proofs.lemmas.List.{append-nil}
 use Rattle.std.proofs.lemmas.List.Splits.{slice_split_at}
 use Rattle.std.proofs.lemmas.List.Sums.{AllPass-from_list_all}
 use Rattle.mem_model.specs.declared.ledger.Ledger.{Ledger}
 use Rattle.mem_model.specs.Chunk.{Chunk}
-use Rattle.leak_report.specs.LawfulReport.{IsPrintedName}
 use Rattle.leak_report.specs.ReadReport.{chunk_in, has_bytes, is_word_byte, lines_in, tree_line_in}
 use Rattle.leak_report.specs.Report.{TreeLine, tree_line_text}
 use Rattle.leak_report.specs.ReportText.{chunk_text, ledger_text, references_text}
 use Rattle.leak_report.specs.TreeText.{indent}
 use Rattle.leak_report.proofs.LineLemmas.{IsFineChunk, IsFineLedger, IsFineLine, chunk_body, chunk_in-body, chunk_in-tree_line, tree_line_body, tree_line_in-body, tree_line_in-chunk}
-use Rattle.leak_report.proofs.WordLemmas.{IsWordBytes, IsWord, IsWord-decimal, IsWord-name, some_bytes}
+use Rattle.leak_report.proofs.WordLemmas.{IsWordBytes, IsWord-decimal, IsWord-name, some_bytes}
 
 -- a byte within a line
 abbrev pub is_within_line : ℕ → Bool

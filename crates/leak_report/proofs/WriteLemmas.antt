@@ -3,9 +3,9 @@ use Rattle.std.proofs.Common.{◌≡◌, ℕ, zero, suc, ◌+◌, ◌*◌, ◌^�
 use Rattle.std.specs.List.{flat_map}
 use Rattle.std.proofs.lemmas.List.Elements.{All-head}
 use Rattle.std.proofs.lemmas.List.Sums.{sum_by-cons}
-use Rattle.mem_model.specs.Chunk.{Chunk}
+use Rattle.mem_model.specs.Chunk.{Chunk, references_of}
 use Rattle.mem_model.specs.Ledgers.{total_of}
-use Rattle.leak_report.specs.ReportText.{chunk_text, references_of}
+use Rattle.leak_report.specs.ReportText.{chunk_text}
 
 -- a chunk with as many references as 64 bits count
 abbrev pub HasFew : Chunk → Type 0

@@ -1,22 +1,22 @@
 -- What makes a report lawful: its names are names, its numbers fit, and they agree with each other.
-use Rattle.std.specs.Prelude.{◌≡◌, ℕ, ◌<◌, ◌^◌, ◌==◌, ◌⊎◌, Bool, true, false, List, codes, map, All, AllPairs}
+use Rattle.std.specs.Prelude.{◌≡◌, ℕ, ◌<◌, ◌^◌, ◌==◌, ◌⊎◌, Bool, true, false, List, codes, map, All}
 use Rattle.std.specs.List.{list_any}
+use Rattle.mem_num.specs.declared.bounds.TheConstants.{MOST_NUMBERS}
 use Rattle.mem_num.specs.Name.{is_name}
 use Rattle.mem_model.specs.declared.tree_node.TreeNode.{TreeNode}
-use Rattle.mem_model.specs.Chunk.{Chunk, charges_of}
+use Rattle.mem_model.specs.Chunk.{AreInNumberOrder, charges_of, references_of}
 use Rattle.mem_model.specs.Held.{held_of}
 use Rattle.mem_model.specs.LawfulChunk.{IsLawfulChunk}
 use Rattle.mem_model.specs.TreeNode.{IsAllocatorTree}
 use Rattle.leak_report.specs.Report.{PrintedAllocator, Report, printed_text}
-use Rattle.leak_report.specs.ReportText.{references_of}
 
 -- a printed allocator as one of a tree: it is open
-abbrev pub node_of : PrintedAllocator → TreeNode
-node_of printed = record { number = printed.number; parent = printed.parent; reservation = printed.reservation; limit = printed.limit; closed = false }
+abbrev pub printed_node : PrintedAllocator → TreeNode
+printed_node printed = record { number = printed.number; parent = printed.parent; reservation = printed.reservation; limit = printed.limit; closed = false }
 
 -- the printed allocators as those of a tree
 abbrev pub nodes_of : Report → List TreeNode
-nodes_of report = map node_of report.allocators
+nodes_of report = map printed_node report.allocators
 
 -- whether the allocator n is printed
 abbrev pub is_printed : Report → ℕ → Bool
@@ -28,7 +28,7 @@ IsPrintedName name = (is_name name ≡ true) ⊎ (name ≡ codes "?")
 
 -- the numbers of an allocator: its own of 32 bits, and bytes of 64
 pub record AllocatorFits (printed : PrintedAllocator) : Type 0 where
-  pub number : printed.number.0 < 2 ^ 32
+  pub number : printed.number.0 < MOST_NUMBERS
   pub reservation : printed.reservation < 2 ^ 64
   pub held : printed.held < 2 ^ 64
   pub peak : printed.peak < 2 ^ 64
@@ -37,7 +37,7 @@ pub record AllocatorFits (printed : PrintedAllocator) : Type 0 where
 -- the numbers of a report, as long as programs print them: those of chunks have 32 bits, the references of a ledger 64, and all references 128
 pub record NumbersFit (report : Report) : Type 0 where
   pub allocators : All AllocatorFits report.allocators
-  pub chunks : All (λ chunk. chunk.number < 2 ^ 32) report.chunks
+  pub chunks : All (λ chunk. chunk.number < MOST_NUMBERS) report.chunks
   pub counts : All (λ chunk. All (λ ledger. ledger.count < 2 ^ 64) chunk.ledgers) report.chunks
   pub references : report.references < 2 ^ 128
 
@@ -48,7 +48,7 @@ pub record IsLawful (report : Report) : Type 0 where
   pub numbers : NumbersFit report
   pub tree : IsAllocatorTree (nodes_of report)
   pub held : All (λ printed. printed.held ≡ held_of (nodes_of report) (charges_of report.chunks) printed.number.0) report.allocators
-  pub in_order : AllPairs (λ older newer. older.number < newer.number) report.chunks
+  pub in_order : AreInNumberOrder report.chunks
   pub chunks : All (IsLawfulChunk (is_printed report)) report.chunks
   pub references : report.references ≡ references_of report.chunks
 

@@ -4,9 +4,8 @@ use Rattle.std.specs.List.{filter_map, list_any, slice_split}
 use Rattle.mem_num.specs.Name.{is_name_byte}
 use Rattle.mem_num.specs.declared.alloc_id.AllocId.{AllocId}
 use Rattle.mem_model.specs.declared.ledger.Ledger.{Ledger}
-use Rattle.mem_model.specs.Chunk.{Chunk}
+use Rattle.mem_model.specs.Chunk.{Chunk, references_of}
 use Rattle.leak_report.specs.Report.{PrintedAllocator, Report, TreeLine}
-use Rattle.leak_report.specs.ReportText.{references_of}
 
 -- a byte of a number or of a name
 abbrev pub is_word_byte : ℕ → Bool

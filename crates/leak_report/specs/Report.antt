@@ -4,10 +4,10 @@ use Rattle.std.specs.List.{flat_map}
 use Rattle.mem_num.specs.Text.{alloc_id_text}
 use Rattle.mem_num.specs.declared.alloc_id.AllocId.{AllocId}
 use Rattle.mem_model.specs.declared.tree_node.TreeNode.{TreeNode}
-use Rattle.mem_model.specs.Chunk.{Chunk}
+use Rattle.mem_model.specs.Chunk.{Chunk, references_of}
 use Rattle.mem_model.specs.TreeNode.{is_number}
 use Rattle.mem_model.specs.TreeState.{TreeState, held_at}
-use Rattle.leak_report.specs.ReportText.{chunk_text, references_of, references_text}
+use Rattle.leak_report.specs.ReportText.{chunk_text, references_text}
 use Rattle.leak_report.specs.TreeText.{indent, name_in}
 
 -- an open allocator: its number and name, whose child it is, and its numbers
@@ -43,8 +43,8 @@ tree_line_text line =
     ++ (codes "/" ++ (decimal line.peak ++ (codes "/" ++ (decimal line.limit ++ codes " (res/actual/peak/limit)\n")))))))))))
 
 -- the line of an allocator, so many levels deep
-abbrev pub line_of : ℕ → PrintedAllocator → TreeLine
-line_of depth printed = record {
+abbrev pub tree_line_of : ℕ → PrintedAllocator → TreeLine
+tree_line_of depth printed = record {
   depth = depth;
   number = printed.number;
   name = printed.name;
@@ -70,21 +70,21 @@ has_parent None printed = is_none printed.parent
 has_parent (Some parent) printed = is_number parent.0 printed.parent
 
 -- the lines of the allocators with this parent, each with those below it; children stand behind their parent, so this goes down the list
-abbrev pub lines_of : List PrintedAllocator → ℕ → Option AllocId → List TreeLine
-lines_of [] depth parent = []
-lines_of (printed ∷ later) depth parent =
-    (if has_parent parent printed then line_of depth printed ∷ lines_of later (depth + 1) (Some printed.number) else []) ++ lines_of later depth parent
+abbrev pub tree_lines_of : List PrintedAllocator → ℕ → Option AllocId → List TreeLine
+tree_lines_of [] depth parent = []
+tree_lines_of (printed ∷ later) depth parent =
+    (if has_parent parent printed then tree_line_of depth printed ∷ tree_lines_of later (depth + 1) (Some printed.number) else []) ++ tree_lines_of later depth parent
 
 -- the same lines as text, one by one
 abbrev pub lines_text : List PrintedAllocator → ℕ → Option AllocId → List ℕ
 lines_text [] depth parent = []
 lines_text (printed ∷ later) depth parent =
-    (if has_parent parent printed then tree_line_text (line_of depth printed) ++ lines_text later (depth + 1) (Some printed.number) else []) ++ lines_text later depth parent
+    (if has_parent parent printed then tree_line_text (tree_line_of depth printed) ++ lines_text later (depth + 1) (Some printed.number) else []) ++ lines_text later depth parent
 
 -- the text of a report: the lines from the root on, then the chunks, and the number of references
 abbrev pub printed_text : Report → List ℕ
 printed_text report =
-    flat_map tree_line_text (lines_of report.allocators 0 None) ++ (flat_map chunk_text report.chunks ++ references_text report.references)
+    flat_map tree_line_text (tree_lines_of report.allocators 0 None) ++ (flat_map chunk_text report.chunks ++ references_text report.references)
 
 -- an allocator of a tree, by what names are bound and by the peak of each
 abbrev pub printed_allocator : List (List (List ℕ × AllocId)) → (ℕ → ℕ) → TreeState → TreeNode → PrintedAllocator

@@ -1,11 +1,10 @@
 -- What a report prints: the lines of the tree, a line for each live chunk, and how many references there are.
-use Rattle.std.specs.Prelude.{ℕ, List, ◌++◌, codes, decimal, sum_by}
+use Rattle.std.specs.Prelude.{ℕ, List, ◌++◌, codes, decimal}
 use Rattle.std.specs.List.{flat_map}
 use Rattle.mem_num.specs.Text.{alloc_id_text}
 use Rattle.mem_num.specs.declared.alloc_id.AllocId.{AllocId}
 use Rattle.mem_model.specs.declared.ledger.Ledger.{Ledger}
-use Rattle.mem_model.specs.Chunk.{Chunk}
-use Rattle.mem_model.specs.Ledgers.{total_of}
+use Rattle.mem_model.specs.Chunk.{Chunk, references_of}
 use Rattle.mem_model.specs.TreeState.{TreeState}
 use Rattle.leak_report.specs.TreeText.{tree_text}
 
@@ -18,10 +17,6 @@ abbrev pub chunk_text : Chunk → List ℕ
 chunk_text chunk =
     codes "chunk " ++ (decimal chunk.number ++ (codes " size " ++ (decimal chunk.size
     ++ (codes " owner " ++ (alloc_id_text chunk.owner.0 ++ (codes " refs" ++ (flat_map ledger_text chunk.ledgers ++ codes "\n")))))))
-
--- how many references there are to some chunks
-abbrev pub references_of : List Chunk → ℕ
-references_of chunks = sum_by (λ chunk. total_of chunk.ledgers) chunks
 
 -- the last line
 abbrev pub references_text : ℕ → List ℕ

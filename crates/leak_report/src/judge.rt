@@ -3,7 +3,7 @@
 ghost use Rattle.std.specs.Prelude.{◌≡◌, ◌^◌, ◌<◌, ◌↔◌, IsTrue, IfOk};
 ghost use Rattle.leak_report.specs.LawfulReport.{IsLawful, IsLawfulReport};
 ghost use Rattle.leak_report.specs.ReadReport.{read_report, report_with};
-ghost use Rattle.leak_report.specs.ReportText as spec;
+ghost use Rattle.mem_model.specs.Chunk as model;
 
 mod check;
 mod print;
@@ -11,8 +11,8 @@ mod printed;
 mod read;
 mod word;
 
-use check::{are_lawful, charges_of, have_names, hold, nodes_of, numbers_fit, references_of, rise};
-use mem_model::is_allocator_tree;
+use check::{are_lawful, charges_of, have_names, hold, nodes_of, numbers_fit, references_of};
+use mem_model::{is_allocator_tree, rise};
 use mem_num::NoMemory;
 use print::text_of;
 use printed::{PrintedAllocator, PrintedChunk};
@@ -64,7 +64,7 @@ fn is_lawful(
     allocators: &[PrintedAllocator],
     chunks: &[PrintedChunk],
 ) -> Result<bool, AllocError>
-    requires { spec.references_of chunks.now < 2 ^ 128 }
+    requires { model.references_of chunks.now < 2 ^ 128 }
     ensures { IfOk result (λ lawful. IsTrue lawful ↔ IsLawful (report_with allocators.now chunks.now)) }
 {
     let nodes = nodes_of(alloc, allocators)?;

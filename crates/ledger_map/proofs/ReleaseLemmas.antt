@@ -7,7 +7,7 @@ use Rattle.mem_model.specs.declared.ledger.Ledger.{Ledger}
 use Rattle.ledger_map.specs.declared.after.After.{After}
 use Rattle.ledger_map.specs.declared.after.After.TheVariants.{Same, Gone, Moved, Freed}
 use Rattle.mem_model.specs.Ledgers.{count_of, with_count, AreInOrder}
-use Rattle.ledger_map.specs.LedgerState.{LedgerState, IsLawful, TakesOne, KeepsPlaces}
+use Rattle.ledger_map.specs.LedgerState.{LedgerState, AreLawfulLedgers, TakesOne, KeepsPlaces}
 use Rattle.ledger_map.specs.Release.{new_owner, after_of, IsAfter}
 use Rattle.mem_model.proofs.LedgerOrderLemmas.{here, above, IsHere, IsAbove}
 use Rattle.mem_model.proofs.LedgerCountLemmas.{count_of-with_count, count_of-with_count_other, total_of-with_count, AreInOrder-with_count, ChangesCount-with_count}
@@ -59,11 +59,11 @@ released_state old ys spare after = record { size = old.size; owner = new_owner 
 
 -- what a release shows: it leaves a lawful state, and its answer follows the rule
 pub record IsReleased (old new : LedgerState) (n : ℕ) (after : After) : Type 0 where
-  pub lawful : IsLawful new
+  pub lawful : AreLawfulLedgers new
   pub rule : IsAfter n old new after
 
 -- a release shows this where the owner then has a count and the answer follows the rule
-released-from : (old : LedgerState) (ys : List Ledger) (n spare : ℕ) (after : After) → IsLawful old → ys ≡ with_count old.ledgers n (count_of old.ledgers n - 1)
+released-from : (old : LedgerState) (ys : List Ledger) (n spare : ℕ) (after : After) → AreLawfulLedgers old → ys ≡ with_count old.ledgers n (count_of old.ledgers n - 1)
     → (ys ≢ [] → 1 ≤ count_of ys (new_owner old.owner after).0) → IsAfter n old (released_state old ys spare after) after
     → IsReleased old (released_state old ys spare after) n after
 released-from old ys n spare after lawful is owned rule = record {
@@ -78,7 +78,7 @@ released-from old ys n spare after lawful is owned rule = record {
 }
 
 -- the owner before keeps a count, unless it was the last of its own
-owner-kept : (old : LedgerState) (ys : List Ledger) (n : ℕ) → IsLawful old → 1 ≤ count_of old.ledgers n → ys ≡ with_count old.ledgers n (count_of old.ledgers n - 1)
+owner-kept : (old : LedgerState) (ys : List Ledger) (n : ℕ) → AreLawfulLedgers old → 1 ≤ count_of old.ledgers n → ys ≡ with_count old.ledgers n (count_of old.ledgers n - 1)
     → (old.owner.0 ≡ n → 1 ≤ count_of ys n) → 1 ≤ count_of ys old.owner.0
 owner-kept old ys n lawful there is left =
     let some_ledger : old.ledgers ≢ [] = λ none. omega (arith, rw none at there) in
@@ -86,12 +86,12 @@ owner-kept old ys n lawful there is left =
     rw is (owner-counted old.ledgers old.owner.0 n (count_of old.ledgers n - 1) lawful.in_order (lawful.owned some_ledger) (λ own. rw (← left_here) (left own)))
 
 -- the first of the ledgers that remain has the least number
-next-least : (old : LedgerState) (n : ℕ) (x : Ledger) (xs : List Ledger) → IsLawful old → x ∷ xs ≡ with_count old.ledgers n (count_of old.ledgers n - 1) → IsLeast (λ m. 1 ≤ count_of (x ∷ xs) m) x.at.0
+next-least : (old : LedgerState) (n : ℕ) (x : Ledger) (xs : List Ledger) → AreLawfulLedgers old → x ∷ xs ≡ with_count old.ledgers n (count_of old.ledgers n - 1) → IsLeast (λ m. 1 ≤ count_of (x ∷ xs) m) x.at.0
 next-least old n x xs lawful is =
     first-least x xs (rw is (AreInOrder-with_count old.ledgers n (count_of old.ledgers n - 1) lawful.in_order))
 
 -- so it does in each case
-released-case : (old : LedgerState) (ys : List Ledger) (n spare : ℕ) (after : After) → IsLawful old → 1 ≤ count_of old.ledgers n → ys ≡ with_count old.ledgers n (count_of old.ledgers n - 1)
+released-case : (old : LedgerState) (ys : List Ledger) (n spare : ℕ) (after : After) → AreLawfulLedgers old → 1 ≤ count_of old.ledgers n → ys ≡ with_count old.ledgers n (count_of old.ledgers n - 1)
     → AnswerCase n old.owner ys after → IsReleased old (released_state old ys spare after) n after
 released-case old ys n spare after lawful there is (freed none e) =
     let P : After → Type 0 = λ a. IsReleased old (released_state old ys spare a) n a in
@@ -108,7 +108,7 @@ released-case old ys n spare after lawful there is (gone none other e) =
     subst P (sym e) (released-from old ys n spare Gone lawful is (λ _. owner-kept old ys n lawful there is (λ own. absurd (other own))) (none, other, refl))
 
 -- so it does with the answer and the owner that are defined
-pub released : (old : LedgerState) (ys : List Ledger) (n spare : ℕ) (after : After) (owner : AllocId) → IsLawful old → 1 ≤ count_of old.ledgers n → ys ≡ with_count old.ledgers n (count_of old.ledgers n - 1)
+pub released : (old : LedgerState) (ys : List Ledger) (n spare : ℕ) (after : After) (owner : AllocId) → AreLawfulLedgers old → 1 ≤ count_of old.ledgers n → ys ≡ with_count old.ledgers n (count_of old.ledgers n - 1)
     → after ≡ after_of n old.owner ys → owner ≡ new_owner old.owner after
     → IsReleased old (record { size = old.size; owner = owner; ledgers = ys; spare = spare }) n after
 released old ys n spare after owner lawful there is answer owned =
@@ -117,7 +117,7 @@ released old ys n spare after owner lawful there is answer owned =
     subst P (sym owned) (released-case old ys n spare after lawful there is (subst Q (sym answer) (answer-case n old.owner ys)))
 
 -- one reference less, told by count and by total
-pub TakesOne-from : (old new : LedgerState) (n : ℕ) → IsLawful old → 1 ≤ count_of old.ledgers n → new.ledgers ≡ with_count old.ledgers n (count_of old.ledgers n - 1) → new.size ≡ old.size → KeepsPlaces old new
+pub TakesOne-from : (old new : LedgerState) (n : ℕ) → AreLawfulLedgers old → 1 ≤ count_of old.ledgers n → new.ledgers ≡ with_count old.ledgers n (count_of old.ledgers n - 1) → new.size ≡ old.size → KeepsPlaces old new
     → TakesOne old new n
 TakesOne-from old new n lawful there is size places = record {
   ledgers = is;

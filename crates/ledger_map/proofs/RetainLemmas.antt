@@ -3,7 +3,7 @@ use Rattle.std.proofs.Common.{◌≡◌, ◌≢◌, ℕ, ◌+◌, ◌^◌, ◌<�
 use Rattle.std.proofs.lemmas.Bool.{cases_eq}
 use Rattle.mem_model.specs.declared.ledger.Ledger.{Ledger}
 use Rattle.mem_model.specs.Ledgers.{count_of, total_of, with_count, AreInOrder}
-use Rattle.ledger_map.specs.LedgerState.{LedgerState, IsLawful, AddsOne, KeepsPlaces}
+use Rattle.ledger_map.specs.LedgerState.{LedgerState, AreLawfulLedgers, AddsOne, KeepsPlaces}
 use Rattle.mem_model.proofs.LedgerCountLemmas.{count_of-with_count, count_of-with_count_other, total_of-with_count, AreInOrder-with_count, ChangesCount-with_count}
 
 -- no owner loses references
@@ -14,9 +14,9 @@ count_of-grown xs n owner order = elim (cases_eq owner n) [
 ]
 
 -- the state stays lawful
-pub IsLawful-retained : (old : LedgerState) (ys : List Ledger) (n spare : ℕ) → IsLawful old → old.ledgers ≢ [] → total_of old.ledgers < 2 ^ 58 → ys ≡ with_count old.ledgers n (count_of old.ledgers n + 1)
-    → IsLawful (record { size = old.size; owner = old.owner; ledgers = ys; spare = spare })
-IsLawful-retained old ys n spare lawful live few is = record {
+pub AreLawfulLedgers-retained : (old : LedgerState) (ys : List Ledger) (n spare : ℕ) → AreLawfulLedgers old → old.ledgers ≢ [] → total_of old.ledgers < 2 ^ 58 → ys ≡ with_count old.ledgers n (count_of old.ledgers n + 1)
+    → AreLawfulLedgers (record { size = old.size; owner = old.owner; ledgers = ys; spare = spare })
+AreLawfulLedgers-retained old ys n spare lawful live few is = record {
   in_order = rw is (AreInOrder-with_count old.ledgers n (count_of old.ledgers n + 1) lawful.in_order);
   owned = λ _. rw is (omega (arith, count_of-grown old.ledgers n old.owner.0 lawful.in_order, lawful.owned live));
   some_bytes = lawful.some_bytes;
@@ -25,7 +25,7 @@ IsLawful-retained old ys n spare lawful live few is = record {
 }
 
 -- one reference more, told by count and by total
-pub AddsOne-from : (old new : LedgerState) (n : ℕ) → IsLawful old → new.ledgers ≡ with_count old.ledgers n (count_of old.ledgers n + 1) → new.size ≡ old.size → new.owner ≡ old.owner → KeepsPlaces old new
+pub AddsOne-from : (old new : LedgerState) (n : ℕ) → AreLawfulLedgers old → new.ledgers ≡ with_count old.ledgers n (count_of old.ledgers n + 1) → new.size ≡ old.size → new.owner ≡ old.owner → KeepsPlaces old new
     → AddsOne old new n
 AddsOne-from old new n lawful is size owner places = record {
   ledgers = is;

@@ -1,5 +1,6 @@
 -- What a contract sees of the ledgers of one chunk.
 use Rattle.std.specs.Prelude.{◌≡◌, ◌≢◌, ℕ, ◌+◌, ◌-◌, ◌^◌, ◌≤◌, List, [], length}
+use Rattle.mem_num.specs.declared.bounds.TheConstants.{LARGEST}
 use Rattle.mem_num.specs.declared.alloc_id.AllocId.{AllocId}
 use Rattle.mem_model.specs.declared.ledger.Ledger.{Ledger}
 use Rattle.mem_model.specs.Ledgers.{AreInOrder, ChangesCount, count_of, total_of, with_count}
@@ -12,11 +13,11 @@ pub record LedgerState : Type 0 where
   pub spare : ℕ
 
 -- the ledgers of a chunk: while one remains, the owner has one
-pub record IsLawful (state : LedgerState) : Type 0 where
+pub record AreLawfulLedgers (state : LedgerState) : Type 0 where
   pub in_order : AreInOrder state.ledgers
   pub owned : state.ledgers ≢ [] → 1 ≤ count_of state.ledgers state.owner.0
   pub some_bytes : 1 ≤ state.size
-  pub few_bytes : state.size ≤ 2 ^ 30
+  pub few_bytes : state.size ≤ LARGEST
   pub few_references : total_of state.ledgers ≤ 2 ^ 58
 
 -- nothing changed but how many more ledgers fit without memory

@@ -1,6 +1,6 @@
 //! The ledgers of one chunk, and who owns it.
 ghost use Rattle.std.specs.Prelude.{◌≡◌, ◌^◌, ◌≤◌, ◌<◌, ◌↔◌, ◌≢◌, [], ◌∷◌, IsOk, IsErr, IfOk, IfErr, OnOk, OnErr};
-ghost use Rattle.ledger_map.specs.LedgerState.{IsLawful};
+ghost use Rattle.ledger_map.specs.LedgerState.{AreLawfulLedgers};
 
 use crate::after::After;
 use crate::counts::{Entries, add_one, take_one};
@@ -28,11 +28,11 @@ impl Model for Ledgers {
 
     ghost Value = { LedgerState };
 
-    ghost use Rattle.ledger_map.specs.Fields.{state_of, IsSound};
+    ghost use Rattle.ledger_map.specs.Fields.{ledger_state, AreSoundLedgers};
 
-    ghost view = { state_of };
+    ghost view = { ledger_state };
 
-    ghost invariant = { IsSound };
+    ghost invariant = { AreSoundLedgers };
 }
 
 impl Ledgers {
@@ -49,7 +49,7 @@ impl Ledgers {
         ensures owner { IfOk result (λ made. made.owner ≡ owner) }
         ensures ledgers { IfOk result (λ made. made.ledgers ≡ record { at = owner; count = 1 } ∷ []) }
         ensures spare { IfOk result (λ made. made.spare ≡ 1) }
-        ensures lawful { IfOk result IsLawful }
+        ensures lawful { IfOk result AreLawfulLedgers }
     {
         let mut ledgers = SmallVec::new(alloc);
         ledgers.push_reserved(Ledger {
@@ -111,7 +111,7 @@ impl Ledgers {
         ensures does_nothing { 1 ≤ self.old.spare → self.new ≡ self.old }
         ensures unchanged { IsUnchanged self.old self.new }
         ensures kept { self.old.spare ≤ self.new.spare }
-        ensures lawful { IsLawful self.new }
+        ensures lawful { AreLawfulLedgers self.new }
     {
         self.ledgers.reserve(1).map_err(|_| NoMemory)
     }
@@ -123,7 +123,7 @@ impl Ledgers {
         requires room { count_of self.old.ledgers at.0 ≡ 0 → 1 ≤ self.old.spare }
         requires few_references { total_of self.old.ledgers < 2 ^ 58 }
         ensures added { AddsOne self.old self.new at.0 }
-        ensures lawful { IsLawful self.new }
+        ensures lawful { AreLawfulLedgers self.new }
     {
         add_one(&mut self.ledgers, at);
     }
@@ -141,7 +141,7 @@ impl Ledgers {
         ensures after { IfOk result (λ after. after ≡ after_of at.0 self.old.owner self.new.ledgers) }
         ensures owner { IfOk result (λ after. self.new.owner ≡ new_owner self.old.owner after) }
         ensures rule { IfOk result (IsAfter at.0 self.old self.new) }
-        ensures lawful { IsLawful self.new }
+        ensures lawful { AreLawfulLedgers self.new }
     {
         let Some(left) = take_one(&mut self.ledgers, at) else {
             return Err(Released {
@@ -158,7 +158,7 @@ impl Ledgers {
     pub fn make_owner(&mut self, at: AllocId)
         requires { 1 ≤ count_of self.old.ledgers at.0 }
         ensures owner { self.new ≡ record self.old { owner = at } }
-        ensures lawful { IsLawful self.new }
+        ensures lawful { AreLawfulLedgers self.new }
     {
         self.owner = at;
     }
@@ -167,7 +167,7 @@ impl Ledgers {
 /// The law that the ledgers of every chunk are lawful: they are in order, none is without a reference, and while one remains the
 /// owner has one.
 pub fn ledgers_are_lawful(ledgers: &Ledgers)
-    ensures { IsLawful ledgers.now }
+    ensures { AreLawfulLedgers ledgers.now }
 {
     // Reading a field tells the proof what always holds of the value.
     let _ = &ledgers.size;

@@ -105,7 +105,7 @@ counted_more : (b : Bool) (r low high : ℕ) → low ≤ high → cond b (counte
 counted_more true r low high le = omega (arith, le)
 counted_more false r low high le = refl
 
-open_child : (n : ℕ) (node : TreeNode) → node.closed ≡ false → is_open_child n node ≡ is_number n node.parent
+pub open_child : (n : ℕ) (node : TreeNode) → node.closed ≡ false → is_open_child n node ≡ is_number n node.parent
 open_child n node is_open = rw is_open (and_true (is_number n node.parent))
 
 -- where one node's number changes, its parent counts as much more as the node counts for more

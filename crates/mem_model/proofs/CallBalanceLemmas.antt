@@ -8,7 +8,7 @@ use Rattle.mem_num.specs.declared.alloc_id.AllocId.{AllocId}
 use Rattle.mem_num.specs.declared.buffer_ref.Ref.{Ref}
 use Rattle.mem_num.specs.declared.solo_refused.SoloRefused.TheVariants.{Released as RefusedRelease}
 use Rattle.mem_num.specs.Rounded.{rounded_size}
-use Rattle.mem_num.specs.declared.bounds.TheConstants.{LARGEST}
+use Rattle.mem_num.specs.declared.bounds.TheConstants.{LARGEST, MOST_ALLOCATORS}
 use Rattle.mem_num.specs.declared.rounding.Rounding.TheVariants.{Power}
 use Rattle.mem_num.specs.declared.buffer_refused.BufferRefused.{BufferRefused}
 use Rattle.mem_model.specs.declared.charge.Charge.{Charge}
@@ -18,7 +18,7 @@ use Rattle.mem_model.specs.Chunk.{Chunk, new_chunk, retained}
 use Rattle.mem_model.specs.LawfulState.{IsLawfulState}
 use Rattle.mem_model.specs.References.{referred_chunk, released_at}
 use Rattle.mem_model.specs.Release.{release_from, release_result}
-use Rattle.mem_model.specs.Child.{most_nodes, child_node, after_child, child_result}
+use Rattle.mem_model.specs.Child.{child_node, after_child, child_result}
 use Rattle.mem_model.specs.Close.{close_result}
 use Rattle.mem_model.specs.Grant.{charge_answer, after_charge, grant_result}
 use Rattle.mem_model.specs.Request.{refusing_level}
@@ -43,7 +43,7 @@ unfolding child_result
 chunks-child state parent reservation limit =
     cond_both (nat_lt limit reservation) _ _ (KeepsChunks state) (λ _. refl) (λ _.
     cond_both (not (is_open state parent.0)) _ _ (KeepsChunks state) (λ _. refl) (λ _.
-    cond_both (nat_le most_nodes state.next) _ _ (KeepsChunks state) (λ _. refl) (λ _.
+    cond_both (nat_le MOST_ALLOCATORS state.next) _ _ (KeepsChunks state) (λ _. refl) (λ _.
     chunks-after_child state (child_node state parent reservation limit) (refusing_level state.nodes (charges_in state) (record { at = parent; amount = reservation })))))
 
 -- and closing

@@ -1,11 +1,12 @@
 -- What holds after any list of calls.
-use Rattle.std.proofs.Common.{◌≡◌, ◌≢◌, ℕ, ◌+◌, ◌<◌, ◌^◌, List, [], ◌∷◌, get_or, true, not, refl, sym, ap, ◌∙◌, arith, All, AllPairs}
+use Rattle.std.proofs.Common.{◌≡◌, ◌≢◌, ℕ, ◌+◌, ◌≤◌, List, [], ◌∷◌, get_or, true, not, refl, sym, ap, ◌∙◌, arith, All, AllPairs}
 use Rattle.std.specs.List.{sum_by, count_by}
 use Rattle.std.proofs.lemmas.Bool.{and_parts, not-true, both_ways, true≢false, false_from_ne_true}
 use Rattle.std.proofs.lemmas.List.{append-nil, get_or_default}
 use Rattle.std.proofs.lemmas.List.Elements.{All-head, All-tail}
 use Rattle.std.proofs.lemmas.List.Folds.{list_any-from_Any}
 use Rattle.std.proofs.lemmas.List.Sums.{sum_by-cons}
+use Rattle.mem_num.specs.declared.bounds.TheConstants.{MAX_LIMIT}
 use Rattle.mem_model.specs.Calls.{TreeCall, Child, Close, Grant, Retain, Transfer, Release, after_call, state_after, IsBoundedCall, AreBoundedCalls, references_given, references_returned, references_in, HasOpenOwner, HasRootAlone, IsEmptyTree}
 use Rattle.mem_model.specs.Charge.{charged_at}
 use Rattle.mem_model.specs.Chunk.{Chunk, charges_of, has_ledger}
@@ -40,18 +41,18 @@ lawful-state_after state (call ∷ calls) h bounded =
     lawful-state_after (after_call state call) calls (lawful-after_call state call h (All-head IsBoundedCall call calls bounded)) (All-tail IsBoundedCall call calls bounded)
 
 -- and what calls reach from an opening is lawful
-pub lawful-reached : (limit : ℕ) (calls : List TreeCall) → limit < 2 ^ 63 → AreBoundedCalls calls → IsLawfulState (state_after (opened limit) calls)
+pub lawful-reached : (limit : ℕ) (calls : List TreeCall) → limit ≤ MAX_LIMIT → AreBoundedCalls calls → IsLawfulState (state_after (opened limit) calls)
 lawful-reached limit calls limited bounded = lawful-state_after (opened limit) calls (opened_lawful limit limited) bounded
 
 -- there each chunk has an open owner
-pub owned-reached : (limit : ℕ) (calls : List TreeCall) → limit < 2 ^ 63 → AreBoundedCalls calls → All (HasOpenOwner (state_after (opened limit) calls)) (state_after (opened limit) calls).chunks
+pub owned-reached : (limit : ℕ) (calls : List TreeCall) → limit ≤ MAX_LIMIT → AreBoundedCalls calls → All (HasOpenOwner (state_after (opened limit) calls)) (state_after (opened limit) calls).chunks
 owned-reached limit calls limited bounded k d within =
     let state = state_after (opened limit) calls in
     let lawful = (lawful-reached limit calls limited bounded).chunks k d within in
     record { open_ = owner_open state (get_or state.chunks k d) lawful; refers = lawful.owner }
 
 -- and numbers differ
-pub numbers-reached : (limit : ℕ) (calls : List TreeCall) → limit < 2 ^ 63 → AreBoundedCalls calls → AllPairs (λ (one other : Chunk). one.number ≢ other.number) (state_after (opened limit) calls).chunks
+pub numbers-reached : (limit : ℕ) (calls : List TreeCall) → limit ≤ MAX_LIMIT → AreBoundedCalls calls → AllPairs (λ (one other : Chunk). one.number ≢ other.number) (state_after (opened limit) calls).chunks
 numbers-reached limit calls limited bounded i j d lt within same =
     omega (arith, (lawful-reached limit calls limited bounded).in_order i j d lt within, same)
 
@@ -102,7 +103,7 @@ empty-tree state h none alone =
     }
 
 -- calls that give all references back and leave the root alone leave an empty tree
-pub empty-reached : (limit : ℕ) (calls : List TreeCall) → limit < 2 ^ 63 → AreBoundedCalls calls → references_given (opened limit) calls ≡ references_returned (opened limit) calls
+pub empty-reached : (limit : ℕ) (calls : List TreeCall) → limit ≤ MAX_LIMIT → AreBoundedCalls calls → references_given (opened limit) calls ≡ references_returned (opened limit) calls
     → HasRootAlone (state_after (opened limit) calls) → IsEmptyTree (state_after (opened limit) calls)
 empty-reached limit calls limited bounded balanced alone =
     let balance = references-calls (opened limit) calls (opened_lawful limit limited) bounded in

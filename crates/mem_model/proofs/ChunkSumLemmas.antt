@@ -1,30 +1,26 @@
 -- Sums over chunks in order of number, where one of them is replaced or goes.
-use Rattle.std.proofs.Common.{◌≡◌, ◌≢◌, ℕ, ◌+◌, ◌<◌, List, [], ◌∷◌, true, false, not, ◌==◌, refl, sym, ap, ◌∙◌, arith, inl, inr, All, AllPairs, Some}
+use Rattle.std.proofs.Common.{◌≡◌, ◌≢◌, ℕ, ◌+◌, ◌<◌, List, [], ◌∷◌, true, false, not, ◌==◌, refl, sym, ap, ◌∙◌, arith, inl, inr, All, Some}
 use Rattle.std.specs.List.{find, sum_by}
 use Rattle.std.proofs.lemmas.Bool.{cond-true, cond-false, ne_eqb, eqb-true, cases_Bool}
 use Rattle.std.proofs.lemmas.List.Elements.{All-head, All-tail}
 use Rattle.std.proofs.lemmas.List.Sums.{sum_by-cons}
-use Rattle.mem_model.specs.Chunk.{Chunk, in_place_of, with_chunk}
+use Rattle.mem_model.specs.Chunk.{AreInNumberOrder, Chunk, in_place_of, with_chunk}
 use Rattle.mem_model.specs.Release.{without_chunk}
 use Rattle.mem_model.proofs.OpenLemmas.{pairs_head, pairs_tail}
 
--- chunks stand in order of number
-abbrev pub IsRising : List Chunk → Type 0
-IsRising chunks = AllPairs (λ (older newer : Chunk). older.number < newer.number) chunks
-
 -- the later ones have other numbers
-later-other : (x : Chunk) (xs : List Chunk) (n : ℕ) → IsRising (x ∷ xs) → x.number ≡ n → All (λ y. y.number ≢ n) xs
+pub later-other : (x : Chunk) (xs : List Chunk) (n : ℕ) → AreInNumberOrder (x ∷ xs) → x.number ≡ n → All (λ y. y.number ≢ n) xs
 later-other x xs n rises same k d within e = omega (arith, pairs_head (λ (older newer : Chunk). older.number < newer.number) x xs rises k d within)
 
 -- nothing is replaced where none has the number
-with_chunk-none : (new : Chunk) (xs : List Chunk) → All (λ x. x.number ≢ new.number) xs → with_chunk new xs ≡ xs
+pub with_chunk-none : (new : Chunk) (xs : List Chunk) → All (λ x. x.number ≢ new.number) xs → with_chunk new xs ≡ xs
 with_chunk-none new [] none = refl
 with_chunk-none new (x ∷ xs) none =
     ap (λ y. y ∷ with_chunk new xs) (cond-false (x.number == new.number) new x (ne_eqb x.number new.number (All-head (λ y. y.number ≢ new.number) x xs none)))
     ∙ ap (λ ys. x ∷ ys) (with_chunk-none new xs (All-tail (λ y. y.number ≢ new.number) x xs none))
 
 -- and nothing goes
-without_chunk-none : (n : ℕ) (xs : List Chunk) → All (λ x. x.number ≢ n) xs → without_chunk n xs ≡ xs
+pub without_chunk-none : (n : ℕ) (xs : List Chunk) → All (λ x. x.number ≢ n) xs → without_chunk n xs ≡ xs
 without_chunk-none n [] none = refl
 without_chunk-none n (x ∷ xs) none =
     cond-true (not (x.number == n)) (x ∷ without_chunk n xs) (without_chunk n xs) (ap not (ne_eqb x.number n (All-head (λ y. y.number ≢ n) x xs none)))
@@ -41,7 +37,7 @@ find_first n x old xs same is =
     cc
 
 -- a chunk in the place of another: the sum changes by what these two add
-pub sum_by-with_chunk : (f : Chunk → ℕ) (n : ℕ) (new old : Chunk) (xs : List Chunk) → new.number ≡ n → IsRising xs → find (λ chunk. chunk.number == n) xs ≡ Some old
+pub sum_by-with_chunk : (f : Chunk → ℕ) (n : ℕ) (new old : Chunk) (xs : List Chunk) → new.number ≡ n → AreInNumberOrder xs → find (λ chunk. chunk.number == n) xs ≡ Some old
     → sum_by f (with_chunk new xs) + f old ≡ sum_by f xs + f new
 sum_by-with_chunk f n new old [] number rises is = absurd cc
 sum_by-with_chunk f n new old (x ∷ xs) number rises is = elim (cases_Bool (x.number == n)) [
@@ -57,7 +53,7 @@ sum_by-with_chunk f n new old (x ∷ xs) number rises is = elim (cases_Bool (x.n
 ]
 
 -- a chunk goes: the sum falls by what it added
-pub sum_by-without_chunk : (f : Chunk → ℕ) (n : ℕ) (old : Chunk) (xs : List Chunk) → IsRising xs → find (λ chunk. chunk.number == n) xs ≡ Some old
+pub sum_by-without_chunk : (f : Chunk → ℕ) (n : ℕ) (old : Chunk) (xs : List Chunk) → AreInNumberOrder xs → find (λ chunk. chunk.number == n) xs ≡ Some old
     → sum_by f (without_chunk n xs) + f old ≡ sum_by f xs
 sum_by-without_chunk f n old [] rises is = absurd cc
 sum_by-without_chunk f n old (x ∷ xs) rises is = elim (cases_Bool (x.number == n)) [

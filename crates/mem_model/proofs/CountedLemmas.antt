@@ -1,8 +1,8 @@
 -- References to each chunk, of each allocator: those before a call and those that it gives are those after and those that it takes back.
-use Rattle.std.proofs.Common.{◌≡◌, ℕ, ◌+◌, ◌-◌, ◌≤◌, List, [], ◌∷◌, Bool, true, false, not, nat_lt, nat_le, ◌==◌, ◌&&◌, refl, sym, ap, subst, ◌∙◌, arith, inl, inr, add-zero, Option, Some, None, Result, Ok, Err}
+use Rattle.std.proofs.Common.{◌≡◌, ℕ, ◌+◌, ◌-◌, ◌≤◌, List, [], ◌∷◌, Bool, true, false, not, nat_lt, ◌==◌, refl, sym, ap, ◌∙◌, arith, inl, inr, add-zero, Option, Some, None, Result, Err}
 use Rattle.std.specs.List.{find, sum_by}
 use Rattle.std.specs.Option.{option_map_or}
-use Rattle.std.proofs.lemmas.Bool.{cases_Bool, cases_eq, cases_lt, cond_both, false≢true, eq-eqb, ne_eqb, eqb-true, lt-ltb}
+use Rattle.std.proofs.lemmas.Bool.{cases_Bool, cases_eq, cases_lt, cond_both, false≢true, eq-eqb, ne_eqb, lt-ltb}
 use Rattle.std.proofs.lemmas.List.Sums.{sum_by-cons, sum_by_push}
 use Rattle.mem_num.specs.declared.alloc_id.AllocId.{AllocId}
 use Rattle.mem_num.specs.declared.buffer_ref.Ref.{Ref}
@@ -15,7 +15,7 @@ use Rattle.mem_model.specs.declared.charge.Charge.{Charge}
 use Rattle.mem_model.specs.declared.tree_node.TreeNode.{TreeNode}
 use Rattle.mem_model.specs.Calls.{TreeCall, Child, Close, Grant, Retain, Transfer, Release, after_call}
 use Rattle.mem_model.specs.Chunk.{Chunk, has_ledger, new_chunk, released, retained, with_chunk}
-use Rattle.mem_model.specs.CountedReferences.{count_on, references_to, is_reference_to, one_to, one_given, one_moved, one_taken, given_to, taken_from}
+use Rattle.mem_model.specs.CountedReferences.{count_on, references_to, one_to, one_given, one_moved, one_taken, given_to, taken_from}
 use Rattle.mem_model.specs.Grant.{charge_answer, after_charge, grant_result}
 use Rattle.mem_model.specs.LawfulState.{IsLawfulState}
 use Rattle.mem_model.specs.Ledgers.{AreInOrder, count_of, with_count}

@@ -1,5 +1,5 @@
 -- What an allocator holds is within the peak of the samples, after any list of calls.
-use Rattle.std.proofs.Common.{◌≡◌, ◌≢◌, ℕ, cond, ◌+◌, ◌<◌, ◌≤◌, ◌^◌, ◌==◌, List, [], ◌∷◌, ◌++◌, get_or, true, false, not, ◌&&◌, nat_le, nat_lt, refl, sym, ap, subst, ◌∙◌, arith, append_assoc, inl, inr, All, Option, Some, None, Err, sum_by}
+use Rattle.std.proofs.Common.{◌≡◌, ◌≢◌, ℕ, cond, ◌+◌, ◌<◌, ◌≤◌, ◌==◌, List, [], ◌∷◌, ◌++◌, get_or, true, false, not, ◌&&◌, nat_le, nat_lt, refl, sym, ap, subst, ◌∙◌, arith, append_assoc, inl, inr, All, Option, Some, None, Err, sum_by}
 use Rattle.std.specs.List.{list_any, Any}
 use Rattle.std.specs.Option.{option_map_or}
 use Rattle.std.proofs.Math.Bool.{and-false}
@@ -10,7 +10,7 @@ use Rattle.std.proofs.lemmas.List.Folds.{Any-from_list_any, list_any-from_Any}
 use Rattle.std.proofs.lemmas.List.Sums.{sum_by-cons, sum_by-append}
 use Rattle.mem_num.specs.declared.alloc_id.AllocId.{AllocId}
 use Rattle.mem_num.specs.declared.buffer_ref.Ref.{Ref}
-use Rattle.mem_num.specs.declared.bounds.TheConstants.{LARGEST}
+use Rattle.mem_num.specs.declared.bounds.TheConstants.{LARGEST, MAX_LIMIT, MOST_ALLOCATORS}
 use Rattle.mem_num.specs.declared.rounding.Rounding.TheVariants.{Power}
 use Rattle.mem_num.specs.declared.solo_refused.SoloRefused.TheVariants.{Released as RefusedRelease}
 use Rattle.mem_num.specs.Rounded.{rounded_size}
@@ -18,7 +18,7 @@ use Rattle.mem_model.specs.declared.charge.Charge.{Charge}
 use Rattle.mem_model.specs.declared.tree_node.TreeNode.{TreeNode}
 use Rattle.mem_model.specs.Calls.{TreeCall, Child, Close, Grant, Retain, Transfer, Release, call_result, after_call, state_after, samples_of, IsBoundedCall, AreBoundedCalls}
 use Rattle.mem_model.specs.Charge.{amount_at, charged_at}
-use Rattle.mem_model.specs.Child.{most_nodes, child_node, after_child, child_result}
+use Rattle.mem_model.specs.Child.{child_node, after_child, child_result}
 use Rattle.mem_model.specs.Chunk.{Chunk, charge_of, charges_of, has_ledger, new_chunk, retained, released, with_chunk}
 use Rattle.mem_model.specs.Close.{with_closed, close_result}
 use Rattle.mem_model.specs.Force.{force_sample}
@@ -191,7 +191,7 @@ held_of-child (node ∷ nodes) charges child parent is open_ none n = elim (case
 ]
 
 -- who owns no chunk is charged nothing
-charged-none : (n : ℕ) (chunks : List Chunk) → All (λ chunk. chunk.owner.0 ≢ n) chunks → charged_at (charges_of chunks) n ≡ 0
+pub charged-none : (n : ℕ) (chunks : List Chunk) → All (λ chunk. chunk.owner.0 ≢ n) chunks → charged_at (charges_of chunks) n ≡ 0
 charged-none n [] none = refl
 charged-none n (chunk ∷ chunks) none =
     omega (
@@ -230,7 +230,7 @@ covers-child samples state parent reservation limit h covers =
     let same = covers-same samples state covers in
     cond_both (nat_lt limit reservation) _ _ (CoversCall samples) (λ _. same) (λ _.
     cond_both (not (is_open state parent.0)) _ _ (CoversCall samples) (λ _. same) (λ open_.
-    cond_both (nat_le most_nodes state.next) _ _ (CoversCall samples) (λ _. covers-less samples state (record state { next = state.next + 1 }) (λ n. omega arith) covers) (λ _.
+    cond_both (nat_le MOST_ALLOCATORS state.next) _ _ (CoversCall samples) (λ _. covers-less samples state (record state { next = state.next + 1 }) (λ n. omega arith) covers) (λ _.
     covers-after_child samples state parent reservation limit (refusing_level state.nodes (charges_in state) (record { at = parent; amount = reservation })) h (not-false (is_open state parent.0) open_) refl covers)))
 
 -- closing lets nobody hold more
@@ -254,11 +254,11 @@ covers-close samples state at covers =
     (λ _. covers-less samples state (record state { nodes = with_closed at.0 state.nodes }) (λ n. held_of-closed at.0 state.nodes (charges_in state) n) covers))
 
 -- what a chunk charges at the allocator n
-abbrev charged_for_it : ℕ → Chunk → ℕ
+abbrev pub charged_for_it : ℕ → Chunk → ℕ
 charged_for_it n chunk = amount_at n (charge_of chunk)
 
 -- charges as a sum over chunks
-charged-sum : (chunks : List Chunk) (n : ℕ) → charged_at (charges_of chunks) n ≡ sum_by (charged_for_it n) chunks
+pub charged-sum : (chunks : List Chunk) (n : ℕ) → charged_at (charges_of chunks) n ≡ sum_by (charged_for_it n) chunks
 charged-sum [] n = refl
 charged-sum (chunk ∷ chunks) n =
     omega (arith, sum_by-cons (amount_at n) (charge_of chunk) (charges_of chunks), sum_by-cons (charged_for_it n) chunk chunks, charged-sum chunks n)
@@ -375,5 +375,5 @@ covers-calls samples state (call ∷ calls) h bounded covers =
     (covers-calls (samples ++ first) after calls (lawful-after_call state call h (All-head IsBoundedCall call calls bounded)) (All-tail IsBoundedCall call calls bounded) (covers-call samples state call h covers))
 
 -- and calls from an opening
-pub covers-reached : (limit : ℕ) (calls : List TreeCall) → limit < 2 ^ 63 → AreBoundedCalls calls → (n : ℕ) → held_at (state_after (opened limit) calls) n ≤ peak_of (samples_of (opened limit) calls) n
+pub covers-reached : (limit : ℕ) (calls : List TreeCall) → limit ≤ MAX_LIMIT → AreBoundedCalls calls → (n : ℕ) → held_at (state_after (opened limit) calls) n ≤ peak_of (samples_of (opened limit) calls) n
 covers-reached limit calls limited bounded = covers-calls [] (opened limit) calls (opened_lawful limit limited) bounded (λ n. omega arith)

@@ -11,7 +11,7 @@ use Rattle.mem_num.specs.declared.not_closed.NotClosed.{NotClosed}
 use Rattle.mem_num.specs.declared.not_closed.NotClosed.TheVariants.{InUse, Closed as NotClosedAgain}
 use Rattle.mem_num.specs.declared.solo_refused.SoloRefused.TheVariants.{Released as RefusedRelease, Closed as RefusedTarget}
 use Rattle.mem_num.specs.Rounded.{rounded_size}
-use Rattle.mem_num.specs.declared.bounds.TheConstants.{LARGEST}
+use Rattle.mem_num.specs.declared.bounds.TheConstants.{LARGEST, MOST_ALLOCATORS}
 use Rattle.mem_num.specs.declared.rounding.Rounding.TheVariants.{Power}
 use Rattle.mem_num.specs.declared.alloc_id.AllocId.{AllocId}
 use Rattle.mem_num.specs.declared.buffer_ref.Ref.{Ref}
@@ -22,7 +22,7 @@ use Rattle.mem_model.specs.Chunk.{Chunk, has_ledger, in_place_of, new_chunk, rel
 use Rattle.mem_model.specs.Ledgers.{count_of, total_of}
 use Rattle.mem_model.specs.References.{referred_chunk, released_at}
 use Rattle.mem_model.specs.TreeState.{TreeState, CallResult, unchanged, is_open, uses_of, closed_at}
-use Rattle.mem_model.specs.Child.{after_child, child_result, made_result, most_nodes}
+use Rattle.mem_model.specs.Child.{after_child, child_result, made_result}
 use Rattle.mem_model.specs.Close.{close_result, with_closed}
 use Rattle.mem_model.specs.DrawnNumbers.{DrawsNumbers, HaveReferences}
 use Rattle.mem_model.specs.Grant.{after_charge, charge_result, grant_result}
@@ -93,7 +93,7 @@ child_draws state at reservation limit =
     let same = draws_nothing state 1 in
     let drawn : DrawsNumbers state past.state 1 = draws_allocator state past.state refl refl refl in
     let made = made_result state at reservation limit in
-    let numbered = either state 1 (nat_le most_nodes state.next) past made drawn (after_child_draws state _ _) in
+    let numbered = either state 1 (nat_le MOST_ALLOCATORS state.next) past made drawn (after_child_draws state _ _) in
     let opened = either state 1 (not (is_open state at.0)) (unchanged state (Err (Closed (closed_at at)))) _ same numbered in
     either state 1 (nat_lt limit reservation) (unchanged state (Err (ReserveAboveLimit reservation limit))) _ same opened
 

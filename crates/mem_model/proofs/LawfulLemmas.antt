@@ -1,11 +1,12 @@
 -- Each step of a tree keeps the law of its state.
-use Rattle.std.proofs.Common.{◌≡◌, ℕ, Bool, ◌+◌, ◌<◌, ◌≤◌, ◌^◌, List, [], ◌∷◌, ◌++◌, get_or, true, not, ◌==◌, refl, sym, ap, subst, ◌∙◌, arith, Some, All, Any}
+use Rattle.std.proofs.Common.{◌≡◌, ℕ, Bool, ◌+◌, ◌<◌, ◌≤◌, List, [], ◌∷◌, ◌++◌, get_or, true, not, ◌==◌, refl, sym, ap, subst, ◌∙◌, arith, Some, All, Any}
 use Rattle.std.specs.List.{list_any}
 use Rattle.std.specs.Option.{ForSome}
 use Rattle.std.proofs.lemmas.List.Elements.{All-nil, All-cons, All-push, All-weaker, All-filter}
 use Rattle.std.proofs.lemmas.List.Folds.{Any-from_list_any, list_any-from_Any}
 use Rattle.std.proofs.lemmas.List.Kept.{AllPairs-filter}
 use Rattle.std.proofs.lemmas.List.Quantifiers.{all_pairs_push}
+use Rattle.mem_num.specs.declared.bounds.TheConstants.{LARGEST, MAX_LIMIT, MAX_RESERVATION, MOST_ALLOCATORS}
 use Rattle.mem_num.specs.declared.alloc_id.AllocId.{AllocId}
 use Rattle.mem_model.specs.declared.ledger.Ledger.{Ledger}
 use Rattle.mem_model.specs.Chunk.{Chunk, new_chunk}
@@ -13,7 +14,7 @@ use Rattle.mem_model.specs.Ledgers.{AreInOrder}
 use Rattle.mem_model.specs.declared.tree_node.TreeNode.{TreeNode}
 use Rattle.mem_model.specs.TreeNode.{IsParentOf, HasParentUnlessRoot, IsAllocatorTree}
 use Rattle.mem_model.specs.TreeState.{TreeState, root_node, opened, is_open}
-use Rattle.mem_model.specs.Child.{most_nodes, child_node}
+use Rattle.mem_model.specs.Child.{child_node}
 use Rattle.mem_model.specs.Release.{without_chunk}
 use Rattle.mem_model.specs.LawfulChunk.{IsLawfulChunk}
 use Rattle.mem_model.specs.LawfulState.{IsWithinBounds, IsLawfulState}
@@ -21,7 +22,7 @@ use Rattle.mem_model.proofs.OpenLemmas.{is_open_at, open_parts, same_id, Any-mor
 use Rattle.mem_model.proofs.ReferenceLemmas.{ledger-counted}
 
 -- a tree with its root alone is lawful
-pub opened_lawful : (limit : ℕ) → limit < 2 ^ 63 → IsLawfulState (opened limit)
+pub opened_lawful : (limit : ℕ) → limit ≤ MAX_LIMIT → IsLawfulState (opened limit)
 opened_lawful limit limited =
     let root = root_node limit in
     record {
@@ -63,7 +64,7 @@ one_ledger at = record {
 }
 
 -- a chunk is made of the next number, for an open owner
-pub lawful-push_chunk : (state : TreeState) (size : ℕ) (owner : AllocId) → IsLawfulState state → 1 ≤ size → size ≤ 2 ^ 30 → is_open state owner.0 ≡ true
+pub lawful-push_chunk : (state : TreeState) (size : ℕ) (owner : AllocId) → IsLawfulState state → 1 ≤ size → size ≤ LARGEST → is_open state owner.0 ≡ true
     → IsLawfulState (record state { chunks = state.chunks ++ new_chunk (state.drawn + 1) size owner ∷ []; drawn = state.drawn + 1 })
 lawful-push_chunk state size owner h some few open_ =
     let chunk = new_chunk (state.drawn + 1) size owner in
@@ -148,7 +149,7 @@ tree-push nodes child p tree is open_ older =
     }
 
 -- a child is made of the next number, under an open parent
-pub lawful-push_child : (state : TreeState) (parent : AllocId) (reservation limit : ℕ) → IsLawfulState state → is_open state parent.0 ≡ true → state.next < most_nodes → reservation ≤ limit → reservation ≤ 2 ^ 40 → limit < 2 ^ 63
+pub lawful-push_child : (state : TreeState) (parent : AllocId) (reservation limit : ℕ) → IsLawfulState state → is_open state parent.0 ≡ true → state.next < MOST_ALLOCATORS → reservation ≤ limit → reservation ≤ MAX_RESERVATION → limit ≤ MAX_LIMIT
     → IsLawfulState (record state { nodes = state.nodes ++ child_node state parent reservation limit ∷ []; next = state.next + 1 })
 lawful-push_child state parent reservation limit h open_ room reserves small limited =
     let child = child_node state parent reservation limit in

@@ -26,7 +26,7 @@ abbrev LeavesLawful : {A : Type 0} → CallResult A → Type 0
 LeavesLawful result = IsLawfulState result.state
 
 -- a chunk in another's place has its number
-number_kept : (new old : Chunk) → (in_place_of new old).number ≡ old.number
+pub number_kept : (new old : Chunk) → (in_place_of new old).number ≡ old.number
 number_kept new old = cond_both (old.number == new.number) new old (λ chunk. chunk.number ≡ old.number) (λ same. sym (eqb-true old.number new.number same)) (λ _. refl)
 
 -- a lawful chunk in the place of the one of its number

@@ -8,6 +8,7 @@ pub mod BalanceLemmas
 pub mod BoundLemmas
 pub mod RequestLemmas
 pub mod TreeLemmas
+pub mod NumberOrderLemmas
 pub mod PeakLemmas
 pub mod OpenLemmas
 pub mod ReferenceLemmas
@@ -26,9 +27,7 @@ pub mod CountedLemmas
 pub mod RunLemmas
 pub mod DrawnLemmas
 pub mod SampleLemmas
-pub mod PlainLemmas
-pub mod PlainCallLemmas
-pub mod PlainReferenceLemmas
+pub mod CallResultLemmas
 pub mod PlannedLemmas
 pub mod PathLemmas
 pub mod HeadroomLemmas

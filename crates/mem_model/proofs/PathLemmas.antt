@@ -1,8 +1,9 @@
 -- Searches through the nodes, one after another.
-use Rattle.std.proofs.Common.{◌≡◌, ℕ, ◌+◌, ◌-◌, ◌<◌, ◌≤◌, ◌^◌, All, arith, subst, reverse, List, [], ◌∷◌, ◌++◌, append_assoc, length, get_or, drop, find, Bool, true, false, sym, ap, ◌∙◌, add-one, drop-cons, Option, Some}
+use Rattle.std.proofs.Common.{◌≡◌, ℕ, ◌+◌, ◌-◌, ◌<◌, ◌≤◌, All, arith, subst, reverse, List, [], ◌∷◌, ◌++◌, append_assoc, length, get_or, drop, find, Bool, true, false, sym, ap, ◌∙◌, add-one, drop-cons, Option, Some}
 use Rattle.std.proofs.lemmas.Bool.{cond-true, cond-false, cond_both}
 use Rattle.std.proofs.lemmas.List.{length-reverse, get_or-reverse}
 use Rattle.std.proofs.lemmas.List.Elements.{All-cons, All-head, All-tail}
+use Rattle.mem_num.specs.declared.bounds.TheConstants.{MAX_LIMIT, MAX_RESERVATION}
 use Rattle.mem_num.specs.declared.alloc_id.AllocId.{AllocId}
 use Rattle.mem_model.specs.declared.tree_node.TreeNode.{TreeNode}
 use Rattle.mem_model.specs.TreeNode.{is_number}
@@ -59,6 +60,6 @@ All-path_of P nodes n h =
     subst P (sym (get_or-reverse nodes k d inside)) (h (length nodes - 1 - k) d (omega (arith, inside))))
 
 -- so the numbers of those on a path of a lawful tree fit
-pub path_bounds : (state : TreeState) (n : ℕ) → IsLawfulState state → All (λ node. (node.limit < 2 ^ 63) × (node.reservation ≤ 2 ^ 40)) (path_of state.nodes n)
+pub path_bounds : (state : TreeState) (n : ℕ) → IsLawfulState state → All (λ node. (node.limit ≤ MAX_LIMIT) × (node.reservation ≤ MAX_RESERVATION)) (path_of state.nodes n)
 path_bounds state n h =
-    All-path_of (λ node. (node.limit < 2 ^ 63) × (node.reservation ≤ 2 ^ 40)) state.nodes n (λ k d within. ((h.nodes k d within).limited, (h.nodes k d within).small))
+    All-path_of (λ node. (node.limit ≤ MAX_LIMIT) × (node.reservation ≤ MAX_RESERVATION)) state.nodes n (λ k d within. ((h.nodes k d within).limited, (h.nodes k d within).small))

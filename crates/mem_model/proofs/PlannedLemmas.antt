@@ -16,7 +16,7 @@ use Rattle.mem_model.specs.Release.{release_result}
 use Rattle.mem_model.specs.Retain.{retain_result}
 use Rattle.mem_model.specs.Transfer.{transfer_result}
 use Rattle.mem_model.specs.TreeState.{TreeState, CallResult, unchanged}
-use Rattle.mem_model.proofs.PlainReferenceLemmas.{retain-nothing, transfer-nothing, release-nothing}
+use Rattle.mem_model.proofs.CallResultLemmas.{retain-nothing, transfer-nothing, release-nothing}
 
 -- planned calls run as the calls that they come to
 run-behind : (state : TreeState) (answers : List CallAnswer) (plan : List PlannedCall) →

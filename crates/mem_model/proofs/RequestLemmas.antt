@@ -42,7 +42,7 @@ filter_none p (x ∷ xs) none = rw (All-head (λ y. p y ≡ false) x xs none) (f
 eqb_same : (a b : ℕ) → eqb a b ≡ true → a ≡ b
 eqb_same a b h = grind (arith, nat_tests)
 
-and_no : (b : Bool) → (b && false) ≡ false
+pub and_no : (b : Bool) → (b && false) ≡ false
 and_no true = refl
 and_no false = refl
 

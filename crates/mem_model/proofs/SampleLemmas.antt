@@ -1,17 +1,17 @@
 -- What is held in the samples of a call stays below 2 ^ 63, and so do peaks.
-use Rattle.std.proofs.Common.{◌≡◌, ℕ, ◌+◌, ◌<◌, ◌≤◌, ◌^◌, max, List, [], ◌∷◌, ◌++◌, Bool, not, nat_lt, nat_le, ◌==◌, ◌&&◌, length, map, filter, refl, sym, ap, subst, ◌∙◌, arith, inl, inr, All, Option, Some, None, Result, Err}
+use Rattle.std.proofs.Common.{◌≡◌, ℕ, ◌+◌, ◌<◌, ◌≤◌, ◌^◌, max, List, [], ◌∷◌, not, nat_lt, nat_le, ◌==◌, length, map, filter, refl, arith, inl, inr, All, Option, Some, None, Err}
 use Rattle.std.specs.List.{fold}
 use Rattle.std.specs.Option.{option_map_or}
 use Rattle.std.proofs.lemmas.Bool.{cases_Bool, cond_both, ltb-false}
 use Rattle.std.proofs.lemmas.List.Elements.{All-append, All-cons, All-head, All-nil, All-tail}
 use Rattle.mem_num.specs.declared.alloc_id.AllocId.{AllocId}
 use Rattle.mem_num.specs.declared.buffer_ref.Ref.{Ref}
-use Rattle.mem_num.specs.declared.bounds.TheConstants.{LARGEST}
+use Rattle.mem_num.specs.declared.bounds.TheConstants.{LARGEST, MAX_RESERVATION, MOST_ALLOCATORS}
 use Rattle.mem_num.specs.declared.solo_refused.SoloRefused.TheVariants.{Released as RefusedRelease}
 use Rattle.mem_num.specs.Rounded.{rounded_size}
 use Rattle.mem_model.specs.declared.charge.Charge.{Charge}
 use Rattle.mem_model.specs.Calls.{TreeCall, Child, Close, Grant, Retain, Transfer, Release, IsBoundedCall, AreBoundedCalls, after_call, call_result, samples_of}
-use Rattle.mem_model.specs.Child.{child_result, most_nodes}
+use Rattle.mem_model.specs.Child.{child_result}
 use Rattle.mem_model.specs.Chunk.{Chunk, released}
 use Rattle.mem_model.specs.Close.{close_result}
 use Rattle.mem_model.specs.Force.{force_sample}
@@ -22,7 +22,7 @@ use Rattle.mem_model.specs.References.{referred_chunk, released_at}
 use Rattle.mem_model.specs.Release.{release_from, release_result}
 use Rattle.mem_model.specs.Retain.{retain_from, retain_result}
 use Rattle.mem_model.specs.Transfer.{moves_charge, transfer_from, transfer_result}
-use Rattle.mem_model.specs.TreeState.{TreeState, CallResult, opened, rounding_at, unchanged, charges_in, is_open, uses_of}
+use Rattle.mem_model.specs.TreeState.{TreeState, CallResult, rounding_at, unchanged, charges_in, is_open, uses_of}
 use Rattle.mem_model.proofs.DrawnLemmas.{call_draws}
 use Rattle.mem_model.proofs.LawfulBoundLemmas.{held_of-trial}
 use Rattle.mem_model.proofs.ReferenceLemmas.{referred_lawful}
@@ -47,19 +47,19 @@ one_sample : (sample : PeakSample) → IsSmall sample → AreSmall (sample ∷ [
 one_sample sample small = All-cons IsSmall sample [] small no_samples
 
 -- that of a request
-request_small : (state : TreeState) (request : Charge) → IsLawfulState state → state.drawn < 2 ^ 32 → request.amount ≤ 2 ^ 40 → AreSmall (request_sample state.nodes (charges_in state) request ∷ [])
+request_small : (state : TreeState) (request : Charge) → IsLawfulState state → state.drawn < 2 ^ 32 → request.amount ≤ MAX_RESERVATION → AreSmall (request_sample state.nodes (charges_in state) request ∷ [])
 request_small state request h few small = one_sample (request_sample state.nodes (charges_in state) request) (λ n. held_of-trial state request n h few small)
 
 -- and of a forced charge
-force_small : (state : TreeState) (force : Charge) → IsLawfulState state → state.drawn < 2 ^ 32 → force.amount ≤ 2 ^ 40 → AreSmall (force_sample state force ∷ [])
+force_small : (state : TreeState) (force : Charge) → IsLawfulState state → state.drawn < 2 ^ 32 → force.amount ≤ MAX_RESERVATION → AreSmall (force_sample state force ∷ [])
 force_small state force h few small = one_sample (force_sample state force) (λ n. held_of-trial state force n h few small)
 
-child_small : (state : TreeState) (parent : AllocId) (reservation limit : ℕ) → IsLawfulState state → state.drawn < 2 ^ 32 → reservation ≤ 2 ^ 40 → SamplesSmall (child_result state parent reservation limit)
+child_small : (state : TreeState) (parent : AllocId) (reservation limit : ℕ) → IsLawfulState state → state.drawn < 2 ^ 32 → reservation ≤ MAX_RESERVATION → SamplesSmall (child_result state parent reservation limit)
 unfolding child_result
 child_small state parent reservation limit h few small =
     cond_both (nat_lt limit reservation) _ _ SamplesSmall (λ _. no_samples) (λ _.
     cond_both (not (is_open state parent.0)) _ _ SamplesSmall (λ _. no_samples) (λ _.
-    cond_both (nat_le most_nodes state.next) _ _ SamplesSmall (λ _. no_samples) (λ _. request_small state (record { at = parent; amount = reservation }) h few small)))
+    cond_both (nat_le MOST_ALLOCATORS state.next) _ _ SamplesSmall (λ _. no_samples) (λ _. request_small state (record { at = parent; amount = reservation }) h few small)))
 
 close_small : (state : TreeState) (at : AllocId) → SamplesSmall (close_result state at)
 unfolding close_result

@@ -1,5 +1,6 @@
 -- Lists of calls on a tree: what they answer and leave, the peaks that they raise, and the references that they give and give back.
-use Rattle.std.specs.Prelude.{◌≡◌, ◌≢◌, ℕ, ◌+◌, ◌<◌, ◌≤◌, ◌^◌, ◌==◌, Bool, true, false, List, [], ◌∷◌, ◌++◌, All, sum_by, if◌then◌else◌, is_ok, Result, Ok, Err, ⊤}
+use Rattle.std.specs.Prelude.{◌≡◌, ◌≢◌, ℕ, ◌+◌, ◌≤◌, ◌==◌, Bool, true, false, List, [], ◌∷◌, ◌++◌, All, if◌then◌else◌, is_ok, Result, Ok, Err, ⊤}
+use Rattle.mem_num.specs.declared.bounds.TheConstants.{MAX_LIMIT, MAX_RESERVATION}
 use Rattle.mem_num.specs.declared.alloc_id.AllocId.{AllocId}
 use Rattle.mem_num.specs.declared.buffer_ref.Ref.{Ref}
 use Rattle.mem_num.specs.declared.buffer_refused.BufferRefused.{BufferRefused}
@@ -7,8 +8,8 @@ use Rattle.mem_num.specs.declared.child_refused.ChildRefused.{ChildRefused}
 use Rattle.mem_num.specs.declared.not_closed.NotClosed.{NotClosed}
 use Rattle.mem_num.specs.declared.released.Released.{Released}
 use Rattle.mem_num.specs.declared.solo_refused.SoloRefused.{SoloRefused}
-use Rattle.mem_model.specs.Chunk.{Chunk}
-use Rattle.mem_model.specs.Ledgers.{count_of, total_of}
+use Rattle.mem_model.specs.Chunk.{Chunk, references_of}
+use Rattle.mem_model.specs.Ledgers.{count_of}
 use Rattle.mem_model.specs.MeasuredTree.{MeasuredTree, IsAfterCall}
 use Rattle.mem_model.specs.PeakSample.{PeakSample}
 use Rattle.mem_model.specs.TreeState.{TreeState, CallResult, is_open, held_at, uses_of}
@@ -80,7 +81,7 @@ LeadTo old (call ∷ calls) new = (next : MeasuredTree) × IsAfterCall old (call
 
 -- a call whose own numbers are within bounds: a child reserves at most 2^40 bytes, and its limit is below 2^63
 abbrev pub IsBoundedCall : TreeCall → Type 0
-IsBoundedCall (Child parent reservation limit) = (reservation ≤ 2 ^ 40) × (limit < 2 ^ 63)
+IsBoundedCall (Child parent reservation limit) = (reservation ≤ MAX_RESERVATION) × (limit ≤ MAX_LIMIT)
 IsBoundedCall _ = ⊤
 
 abbrev pub AreBoundedCalls : List TreeCall → Type 0
@@ -122,7 +123,7 @@ references_returned state calls = sum_over returned_by state calls
 
 -- how many references there are, to all live chunks
 abbrev pub references_in : TreeState → ℕ
-references_in state = sum_by (λ chunk. total_of chunk.ledgers) state.chunks
+references_in state = references_of state.chunks
 
 -- the owner of a chunk is open, and refers to it
 pub record HasOpenOwner (state : TreeState) (chunk : Chunk) : Type 0 where

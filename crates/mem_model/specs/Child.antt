@@ -1,5 +1,6 @@
 -- Making a child.
 use Rattle.std.specs.Prelude.{ℕ, ◌+◌, not, nat_le, nat_lt, [], ◌∷◌, ◌++◌, if◌then◌else◌, Option, Some, None, Result, Ok, Err, false}
+use Rattle.mem_num.specs.declared.bounds.TheConstants.{MOST_ALLOCATORS}
 use Rattle.mem_num.specs.declared.alloc_id.AllocId.{AllocId}
 use Rattle.mem_num.specs.declared.child_refused.ChildRefused.{ChildRefused}
 use Rattle.mem_num.specs.declared.child_refused.ChildRefused.TheVariants.{ReserveAboveLimit, Closed, Nodes, Full}
@@ -8,10 +9,6 @@ use Rattle.mem_model.specs.declared.tree_node.TreeNode.{TreeNode}
 use Rattle.mem_model.specs.Request.{refusing_level, refusal_of}
 use Rattle.mem_model.specs.PeakSample.{request_sample}
 use Rattle.mem_model.specs.TreeState.{TreeState, CallResult, unchanged, charges_in, is_open, closed_at}
-
--- how many allocators a tree may have in its life, the root included
-abbrev pub most_nodes : ℕ
-most_nodes = 64
 
 -- the child that gets the next number
 abbrev pub child_node : TreeState → AllocId → ℕ → ℕ → TreeNode
@@ -44,5 +41,5 @@ unfoldable pub child_result : TreeState → AllocId → ℕ → ℕ → CallResu
 child_result state parent reservation limit =
     if nat_lt limit reservation then unchanged state (Err (ReserveAboveLimit reservation limit))
     else if not (is_open state parent.0) then unchanged state (Err (Closed (closed_at parent)))
-    else if nat_le most_nodes state.next then record { answer = Err (Nodes state.next); state = record state { next = state.next + 1 }; samples = [] }
+    else if nat_le MOST_ALLOCATORS state.next then record { answer = Err (Nodes state.next); state = record state { next = state.next + 1 }; samples = [] }
     else made_result state parent reservation limit

@@ -1,9 +1,10 @@
 -- Live chunks, and what they charge.
-use Rattle.std.specs.Prelude.{ℕ, ◌+◌, ◌-◌, ◌==◌, Bool, nat_lt, List, [], ◌∷◌, map, if◌then◌else◌}
+use Rattle.std.specs.Prelude.{ℕ, ◌+◌, ◌-◌, ◌<◌, ◌==◌, Bool, nat_lt, List, [], ◌∷◌, map, sum_by, AllPairs, Option, if◌then◌else◌}
+use Rattle.std.specs.List.{find}
 use Rattle.mem_num.specs.declared.alloc_id.AllocId.{AllocId}
 use Rattle.mem_model.specs.declared.charge.Charge.{Charge}
 use Rattle.mem_model.specs.declared.ledger.Ledger.{Ledger}
-use Rattle.mem_model.specs.Ledgers.{count_of, with_count}
+use Rattle.mem_model.specs.Ledgers.{count_of, total_of, with_count}
 
 -- a chunk of memory: its number, its size, the allocator that is charged for it, and who refers to it how often
 pub record Chunk : Type 0 where
@@ -19,6 +20,18 @@ charge_of chunk = record { at = chunk.owner; amount = chunk.size }
 -- one charge for each chunk
 abbrev pub charges_of : List Chunk → List Charge
 charges_of chunks = map charge_of chunks
+
+-- chunks stand in order of number, so that no two have the same
+abbrev pub AreInNumberOrder : List Chunk → Type 0
+AreInNumberOrder chunks = AllPairs (λ older newer. older.number < newer.number) chunks
+
+-- the chunk of the number n, if it is live
+abbrev pub chunk_at : List Chunk → ℕ → Option Chunk
+chunk_at chunks n = find (λ chunk. chunk.number == n) chunks
+
+-- how many references there are to some chunks
+abbrev pub references_of : List Chunk → ℕ
+references_of chunks = sum_by (λ chunk. total_of chunk.ledgers) chunks
 
 -- a chunk to which its owner alone refers, once
 abbrev pub new_chunk : ℕ → ℕ → AllocId → Chunk

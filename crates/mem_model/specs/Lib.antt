@@ -28,5 +28,3 @@ pub mod DrawnNumbers
 pub mod Calls
 pub mod CountedReferences
 pub mod PlannedCalls
-pub mod PlainTree
-pub mod PlainFields

@@ -16,8 +16,8 @@ pub record PeakSample : Type 0 where
   pub counts : List AllocId
 
 -- a sample of a tree, whose charges and reservations 64 bits hold
-abbrev pub IsSound : PeakSample → Type 0
-IsSound sample = IsAllocatorTree sample.nodes × (all_of sample.nodes sample.charges < 2 ^ 64)
+abbrev pub IsSoundSample : PeakSample → Type 0
+IsSoundSample sample = IsAllocatorTree sample.nodes × (all_of sample.nodes sample.charges < 2 ^ 64)
 
 -- whether a sample counts for the allocator n
 abbrev pub is_counted : ℕ → PeakSample → Bool

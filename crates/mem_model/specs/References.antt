@@ -1,11 +1,12 @@
 -- References to chunks.
-use Rattle.std.specs.Prelude.{◌+◌, ◌<◌, ◌^◌, ◌==◌, Bool, ◌&&◌, Option}
+use Rattle.std.specs.Prelude.{◌+◌, ◌<◌, ◌==◌, Bool, ◌&&◌, Option}
 use Rattle.std.specs.List.{find}
 use Rattle.std.specs.Option.{ForSome}
+use Rattle.mem_num.specs.declared.bounds.TheConstants.{MOST_NUMBERS}
 use Rattle.mem_num.specs.declared.alloc_id.AllocId.{AllocId}
 use Rattle.mem_num.specs.declared.buffer_ref.Ref.{Ref}
 use Rattle.mem_num.specs.declared.released.Released.{Released}
-use Rattle.mem_model.specs.Chunk.{Chunk, has_ledger}
+use Rattle.mem_model.specs.Chunk.{Chunk, chunk_at, has_ledger}
 use Rattle.mem_model.specs.Ledgers.{total_of}
 use Rattle.mem_model.specs.TreeState.{TreeState}
 
@@ -23,7 +24,7 @@ reference_to chunk at = record { chunk = chunk.number; alloc = at; size = chunk.
 
 -- the chunk of a reference can have one more, where 32 bits hold how many it has
 abbrev pub HasRoomFor : TreeState → Ref → Type 0
-HasRoomFor state of = ForSome (find (λ chunk. chunk.number == of.chunk) state.chunks) (λ chunk. total_of chunk.ledgers + 1 < 2 ^ 32)
+HasRoomFor state of = ForSome (chunk_at state.chunks of.chunk) (λ chunk. total_of chunk.ledgers + 1 < MOST_NUMBERS)
 
 -- the refusal of a reference that was given back
 abbrev pub released_at : Ref → Released

@@ -1,5 +1,6 @@
 //! The laws of lists of calls on a tree. Each function does nothing: its contract is a law, which the check proves.
 ghost use Rattle.std.specs.Prelude.{◌≡◌, ◌≢◌, ℕ, ◌+◌, ◌<◌, ◌≤◌, ◌^◌, List, length, All, AllPairs, sum_by};
+ghost use Rattle.mem_num.specs.declared.bounds.TheConstants.{MAX_LIMIT};
 ghost use Rattle.mem_model.specs.declared.tree_node.TreeNode.{TreeNode};
 ghost use Rattle.mem_model.specs.Calls.{TreeCall, after_call, state_after, samples_of, LeadTo, AreBoundedCalls, given_by, returned_by, references_given, references_returned, references_in, HasOpenOwner, HasRootAlone, IsEmptyTree};
 ghost use Rattle.mem_model.specs.Charge.{charged_at};
@@ -12,7 +13,7 @@ ghost use Rattle.mem_model.specs.TreeState.{TreeState, opened, charges_in, held_
 
 /// Every state that calls reach from an opening is lawful.
 pub fn states_that_calls_reach_are_lawful()
-    ensures { (limit : ℕ) (calls : List TreeCall) → limit < 2 ^ 63 → AreBoundedCalls calls →
+    ensures { (limit : ℕ) (calls : List TreeCall) → limit ≤ MAX_LIMIT → AreBoundedCalls calls →
         IsLawfulState (state_after (opened limit) calls) }
 {}
 
@@ -28,17 +29,17 @@ pub fn peaks_are_the_greatest_of_the_samples()
 
 /// After calls from an opening no allocator holds more than its peak.
 pub fn what_is_held_is_within_the_peak()
-    ensures { (limit : ℕ) (calls : List TreeCall) → limit < 2 ^ 63 → AreBoundedCalls calls →
+    ensures { (limit : ℕ) (calls : List TreeCall) → limit ≤ MAX_LIMIT → AreBoundedCalls calls →
         (n : ℕ) → held_at (state_after (opened limit) calls) n ≤ peak_of (samples_of (opened limit) calls) n }
 {}
 
 /// After such calls the owner of each live chunk, which alone is charged for it, is open and refers to it, as an
 /// `AllocationManager` of Arrow Java has one owning ledger; and no two live chunks have the same number.
 pub fn each_live_chunk_is_charged_to_one_allocator()
-    ensures owned { (limit : ℕ) (calls : List TreeCall) → limit < 2 ^ 63 → AreBoundedCalls calls →
+    ensures owned { (limit : ℕ) (calls : List TreeCall) → limit ≤ MAX_LIMIT → AreBoundedCalls calls →
         let state = state_after (opened limit) calls in
         All (HasOpenOwner state) state.chunks }
-    ensures numbered { (limit : ℕ) (calls : List TreeCall) → limit < 2 ^ 63 → AreBoundedCalls calls →
+    ensures numbered { (limit : ℕ) (calls : List TreeCall) → limit ≤ MAX_LIMIT → AreBoundedCalls calls →
         let state = state_after (opened limit) calls in
         AllPairs (λ (one other : Chunk). one.number ≢ other.number) state.chunks }
 {}
@@ -72,7 +73,7 @@ pub fn references_balance()
 /// Calls that give every reference back and close every child leave no live chunk, and a root that holds nothing and that nothing
 /// uses: `BaseAllocator.close` of Arrow Java then finds no leak.
 pub fn calls_that_give_all_back_leave_an_empty_tree()
-    ensures { (limit : ℕ) (calls : List TreeCall) → limit < 2 ^ 63 → AreBoundedCalls calls →
+    ensures { (limit : ℕ) (calls : List TreeCall) → limit ≤ MAX_LIMIT → AreBoundedCalls calls →
         references_given (opened limit) calls ≡ references_returned (opened limit) calls →
         HasRootAlone (state_after (opened limit) calls) →
         IsEmptyTree (state_after (opened limit) calls) }

@@ -6,7 +6,6 @@ mod balance;
 mod bound;
 mod calls;
 mod charge;
-mod chunk;
 mod chunk_laws;
 mod counted;
 mod headroom;
@@ -14,11 +13,12 @@ mod held;
 mod laws;
 mod ledger;
 mod ledgers;
+mod numbered;
 mod path;
 mod peak_sample;
-mod plain_tree;
 mod planned_calls;
 mod request;
+mod reservation;
 mod sample;
 mod tree_node;
 #[cfg(test)]
@@ -37,7 +37,6 @@ pub use calls::{
     what_is_held_is_within_the_peak,
 };
 pub use charge::{Charge, charged_at};
-pub use chunk::{Chunk, charges_of};
 pub use chunk_laws::{a_chunk_is_charged_to_its_owner, the_next_owner_is_the_least};
 pub use counted::{counted_reference_is_to_a_live_chunk, references_of_each_allocator_balance};
 pub use headroom::{
@@ -50,13 +49,14 @@ pub use laws::{
     opened_tree_is_lawful, peaks_stay_small, samples_raise_peaks,
 };
 pub use ledger::Ledger;
-pub use ledgers::{count_of, total_of, with_count};
+pub use ledgers::{count_of, has_ledger, total_of, with_count};
+pub use numbered::{Numbered, rise};
 pub use path::levels_stand_on_the_path_to_the_root;
 pub use peak_sample::{PeakSample, peak_of};
-pub use plain_tree::PlainTree;
 pub use planned_calls::{
     a_place_without_a_chunk_changes_nothing, planned_calls_run_as_the_calls_that_they_come_to,
 };
 pub use request::{is_past_limit, levels_of, refusal_of, refusing_level};
+pub use reservation::beyond_reservation;
 pub use sample::{force_sample, request_sample};
 pub use tree_node::{TreeNode, is_allocator_tree};

@@ -38,7 +38,7 @@ impl PeakSample {
 
     /// Whether it is a sample of a tree whose numbers 64 bits hold.
     pub fn is_sound(&self) -> bool
-        ensures { IsTrue result ↔ spec.IsSound self.now }
+        ensures { IsTrue result ↔ spec.IsSoundSample self.now }
     {
         is_allocator_tree(&self.nodes) && fits(&self.nodes, &self.charges)
     }
@@ -50,7 +50,7 @@ impl PeakSample {
     }
 
     fn held_by(&self, at: AllocId) -> u64
-        requires { spec.IsSound self.now }
+        requires { spec.IsSoundSample self.now }
         ensures { result ≡ spec.held_in at.0 self.now }
     {
         held_of(&self.nodes, &self.charges, at)
@@ -59,7 +59,7 @@ impl PeakSample {
 
 /// The peak of an allocator, in bytes: the greatest that it holds in the samples that count for it, or 0.
 pub fn peak_of(samples: &[PeakSample], at: AllocId) -> u64
-    requires { All spec.IsSound samples.now }
+    requires { All spec.IsSoundSample samples.now }
     ensures { result ≡ spec.peak_of samples.now at.0 }
 {
     let mut peak = 0;

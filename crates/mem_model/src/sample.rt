@@ -58,7 +58,7 @@ pub fn force_sample(
     requires tree { IsAllocatorTree nodes.now }
     requires fits { all_of nodes.now (force ∷ charges.now) < 2 ^ 64 }
     ensures sample { IfOk result (λ sample. sample ≡ force_sample_of nodes.now charges.now force) }
-    ensures sound { IfOk result spec.IsSound }
+    ensures sound { IfOk result spec.IsSoundSample }
 {
     let levels = levels_of(alloc, nodes, charges, force)?;
     let counts = numbers_of(alloc, &levels)?;
@@ -77,7 +77,7 @@ pub fn request_sample(
     requires tree { IsAllocatorTree nodes.now }
     requires fits { all_of nodes.now (request ∷ charges.now) < 2 ^ 64 }
     ensures sample { IfOk result (λ sample. sample ≡ spec.request_sample nodes.now charges.now request) }
-    ensures sound { IfOk result spec.IsSound }
+    ensures sound { IfOk result spec.IsSoundSample }
 {
     let levels = levels_of(alloc, nodes, charges, request)?;
     let refusing = refusing_level(alloc, nodes, charges, request)?;

@@ -1,8 +1,9 @@
 //! An allocator of a tree, and which lists of them are trees.
-ghost use Rattle.std.specs.Prelude.{◌≡◌, ◌<◌, ◌↔◌, IsTrue, All, AllPairs, Any};
+ghost use Rattle.std.specs.Prelude.{◌≡◌, ◌↔◌, IsTrue, All, Any};
 ghost use Rattle.std.specs.Option.{ForSome};
 ghost use Rattle.mem_model.specs.TreeNode as tree;
 
+use crate::numbered::{Numbered, rise};
 use mem_num::AllocId;
 
 /// An allocator, without what it holds. The root has no parent, and reserves nothing.
@@ -39,12 +40,6 @@ impl TreeNode {
         self.parent.is_none() == (self.number == AllocId::ROOT)
     }
 
-    fn is_newer_than(&self, nodes: &[TreeNode]) -> bool
-        ensures { IsTrue result ↔ All (λ older. older.number.0 < self.now.number.0) nodes.now }
-    {
-        nodes.iter().all(|older| older.number.0 < self.number.0)
-    }
-
     fn has_parent_in(&self, nodes: &[TreeNode]) -> bool
         ensures { IsTrue result ↔ ForSome self.now.parent (λ _. Any (tree.IsParentOf self.now) nodes.now) }
     {
@@ -52,11 +47,19 @@ impl TreeNode {
     }
 }
 
+impl Numbered for TreeNode {
+    ghost number_of = { λ node. node.number.0 };
+
+    fn number(&self) -> u32 {
+        self.number.0
+    }
+}
+
 /// Whether these allocators, in this order, are a tree.
 pub fn is_allocator_tree(nodes: &[TreeNode]) -> bool
     ensures { IsTrue result ↔ tree.IsAllocatorTree nodes.now }
 {
-    if !rises(nodes) || !have_a_root(nodes) {
+    if !rise(nodes) || !have_a_root(nodes) {
         return false;
     }
     have_parents(nodes)
@@ -73,17 +76,6 @@ fn have_parents(nodes: &[TreeNode]) -> bool
 {
     for node in nodes {
         if !node.has_parent_in(nodes) {
-            return false;
-        }
-    }
-    true
-}
-
-fn rises(nodes: &[TreeNode]) -> bool
-    ensures { IsTrue result ↔ AllPairs (λ older newer. older.number.0 < newer.number.0) nodes.now }
-{
-    for (i, node) in nodes.iter().enumerate() {
-        if !node.is_newer_than(&nodes[..i]) {
             return false;
         }
     }

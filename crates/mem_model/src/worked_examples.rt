@@ -1,14 +1,14 @@
 //! The definitions, run on worked examples: small trees whose numbers were found by hand.
 
 use crate::{
-    Charge, Chunk, PeakSample, TreeNode, charged_at, charges_of, fits, held_of, is_allocator_tree,
-    is_past_limit, levels_of, peak_of, refusal_of, refusing_level,
+    Charge, PeakSample, TreeNode, charged_at, fits, held_of, is_allocator_tree, is_past_limit,
+    levels_of, peak_of, refusal_of, refusing_level,
 };
-use mem_num::{AllocId, Full};
+use mem_num::{AllocId, Full, MAX_LIMIT};
 use std::test::Fail;
 
 /// No limit but that of the type.
-const UNLIMITED: u64 = 9_223_372_036_854_775_807;
+const UNLIMITED: u64 = MAX_LIMIT;
 
 const A: AllocId = AllocId(1);
 
@@ -190,22 +190,5 @@ fn a_peak_is_the_greatest_of_the_samples_that_count(rt: HostRuntime) -> Result<(
     assert_eq!(rt; peak_of(&samples, A), 1_024);
     assert_eq!(rt; peak_of(&samples, B), 1_536);
     assert_eq!(rt; peak_of(&samples, AllocId(3)), 0);
-    Ok(())
-}
-
-#[test]
-fn a_chunk_is_charged_to_its_owner(rt: HostRuntime) -> Result<(), Fail> {
-    let alloc = rt.alloc();
-    let chunks = [
-        Chunk::new(alloc, 1, 1_024, A)?,
-        Chunk::new(alloc, 2, 2, B)?,
-        Chunk::new(alloc, 4, 16, A)?,
-    ];
-    let charges = charges_of(alloc, &chunks)?;
-    assert!(rt; fits(&[], &charges));
-    assert_eq!(rt;
-        charges.as_slice(),
-        [charge(A, 1_024), charge(B, 2), charge(A, 16)].as_slice()
-    );
     Ok(())
 }

@@ -2,6 +2,7 @@
 use Rattle.std.specs.Prelude.{◌≡◌, ℕ, zero, suc, ◌^◌, ◌≤◌, ◌<◌, ◌%◌, ◌*◌, ◌/◌, nat_le, nat_lt, if◌then◌else◌}
 use Rattle.std.specs.Int.{IsPowerOfTwo}
 use Rattle.mem_num.specs.Least.{IsLeast}
+use Rattle.mem_num.specs.declared.bounds.TheConstants.{LARGEST}
 use Rattle.mem_num.specs.declared.rounding.Rounding.{Rounding}
 use Rattle.mem_num.specs.declared.rounding.Rounding.TheVariants.{Power, Segment}
 
@@ -16,10 +17,10 @@ rounded_size policy zero = 0
 rounded_size Power (suc n) = if nat_lt (suc n) (2 ^ 24) then power_from 23 1 (suc n) else suc n
 rounded_size (Segment s) (suc n) = s * suc (n / s)
 
--- a policy's condition: a segment is a power of two from 1,024 to 1,073,741,824
+-- a policy's condition: a segment is a power of two from 1,024 to the largest size of a buffer
 abbrev pub IsPolicy : Rounding → Type 0
 IsPolicy Power = Unit {0}
-IsPolicy (Segment s) = IsPowerOfTwo s × (1024 ≤ s) × (s ≤ 2 ^ 30)
+IsPolicy (Segment s) = IsPowerOfTwo s × (1024 ≤ s) × (s ≤ LARGEST)
 
 -- size is what the policy gives a request of n bytes, in the rule's own words
 abbrev pub IsRounded : Rounding → ℕ → ℕ → Type 0

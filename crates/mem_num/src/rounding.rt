@@ -1,5 +1,5 @@
 //! How many bytes a request is charged.
-ghost use Rattle.std.specs.Prelude.{◌≡◌, ◌≤◌, ◌^◌, ◌↔◌, IsTrue, OkIff, IfOk, IfErr};
+ghost use Rattle.std.specs.Prelude.{◌≡◌, ◌≤◌, ◌↔◌, IsTrue, OkIff, IfOk, IfErr};
 ghost use Rattle.mem_num.specs.Rounded.{rounded_size, IsPolicy, IsRounded};
 
 use crate::bounds::LARGEST;
@@ -45,7 +45,7 @@ const CHUNK: u64 = 16_777_216;
 #[tactic(auto, using(crate::proofs::RoundedLemmas::rounded_rule, crate::proofs::RoundedLemmas::rounded_lower))]
 pub fn rounded(policy: Rounding, request: u64) -> Result<u64, TooLarge>
     requires { IsPolicy policy }
-    ensures size { OkIff result (rounded_size policy request ≤ 2 ^ 30) (rounded_size policy request) }
+    ensures size { OkIff result (rounded_size policy request ≤ LARGEST) (rounded_size policy request) }
     ensures refused { IfErr result (λ refused. refused.request ≡ request) }
     ensures rule { IfOk result (IsRounded policy request) }
 {

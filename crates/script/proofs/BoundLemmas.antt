@@ -1,5 +1,5 @@
 -- The numbers of a line that was read are in their bounds.
-use Rattle.std.proofs.Common.{◌≡◌, ℕ, ◌<◌, ◌≤◌, Bool, true, false, not, ◌&&◌, leb, ltb, List, [], ◌∷◌, length, map, All, Option, Some, None, if◌then◌else◌, refl, sym, subst, arith, codes}
+use Rattle.std.proofs.Common.{◌≡◌, ℕ, ◌≤◌, Bool, true, false, not, ◌&&◌, leb, ltb, List, [], ◌∷◌, length, map, All, Option, Some, None, if◌then◌else◌, refl, sym, subst, arith, codes}
 use Rattle.std.specs.Option.{option_map}
 use Rattle.std.specs.Str.{bytes_eq}
 use Rattle.std.specs.Char.{is_ascii_digit}
@@ -11,8 +11,9 @@ use Rattle.std.proofs.lemmas.List.Elements.{All-cons}
 use Rattle.script.specs.declared.form.Form.{Form}
 use Rattle.script.specs.declared.line.Line.{Line}
 use Rattle.script.specs.declared.line.Line.TheVariants.{Root, Child, Buffer, Retain, Transfer, Slice, Release, Close, Headroom, Tree, Report}
-use Rattle.mem_num.specs.Name.{is_name}
-use Rattle.script.specs.Words.{is_number, name_of, number_of, reservation_of, commands_of}
+use Rattle.mem_num.specs.declared.bounds.TheConstants.{MAX_LIMIT, MAX_RESERVATION}
+use Rattle.mem_num.specs.Name.{is_name, name_word}
+use Rattle.script.specs.Words.{is_numeral, number_of, reservation_of, commands_of}
 use Rattle.script.specs.Grammar.{line_of, child_of, slice_of, limit_of, lines_of, HasBounds, ScriptParts, IsScript}
 
 -- what is of a choice is of one side
@@ -45,26 +46,26 @@ from_test : (P : ℕ → Type 0) (b : Bool) (x v : ℕ) → (b ≡ true → P x)
 from_test P true x v here is = from_some P x v (here refl) is
 from_test P false x v here is = from_none P v is
 
--- a number is below 2 ^ 63
-is_number-bound : (word : List ℕ) → is_number word ≡ true → digits_value 10 word < 9223372036854775808
-unfolding is_number
-is_number-bound word passes =
-    let within = (and_parts (ltb 0 (length word) && list_all is_ascii_digit word) (leb (digits_value 10 word) 9223372036854775807) passes).1 in
+-- a number is at most the greatest limit
+is_numeral-bound : (word : List ℕ) → is_numeral word ≡ true → digits_value 10 word ≤ MAX_LIMIT
+unfolding is_numeral
+is_numeral-bound word passes =
+    let within = (and_parts (ltb 0 (length word) && list_all is_ascii_digit word) (leb (digits_value 10 word) MAX_LIMIT) passes).1 in
     grind (arith, nat_tests, within)
 
 -- so is the value that is told of it
-number_bound : (word : List ℕ) (value : ℕ) → number_of word ≡ Some value → value < 9223372036854775808
-number_bound word value is = from_test (λ v. v < 9223372036854775808) (is_number word) (digits_value 10 word) value (is_number-bound word) is
+number_bound : (word : List ℕ) (value : ℕ) → number_of word ≡ Some value → value ≤ MAX_LIMIT
+number_bound word value is = from_test (λ v. v ≤ MAX_LIMIT) (is_numeral word) (digits_value 10 word) value (is_numeral-bound word) is
 
--- a reservation is at most 2 ^ 40
-reservation_bound : (word : List ℕ) (value : ℕ) → reservation_of word ≡ Some value → value ≤ 1099511627776
+-- a reservation is at most the largest
+reservation_bound : (word : List ℕ) (value : ℕ) → reservation_of word ≡ Some value → value ≤ MAX_RESERVATION
 reservation_bound word value is =
-    from_test (λ v. v ≤ 1099511627776) (is_number word && leb (digits_value 10 word) 1099511627776) (digits_value 10 word) value
-    (λ passes. let within = (and_parts (is_number word) (leb (digits_value 10 word) 1099511627776) passes).1 in grind (arith, nat_tests, within)) is
+    from_test (λ v. v ≤ MAX_RESERVATION) (is_numeral word && leb (digits_value 10 word) MAX_RESERVATION) (digits_value 10 word) value
+    (λ passes. let within = (and_parts (is_numeral word) (leb (digits_value 10 word) MAX_RESERVATION) passes).1 in grind (arith, nat_tests, within)) is
 
 -- a child's are, and its name is one
 child_bounds : (name parent : List ℕ) (reservation limit : Option ℕ) (line : Line) → is_name name ≡ true
-    → ((r : ℕ) → reservation ≡ Some r → r ≤ 1099511627776) → ((l : ℕ) → limit ≡ Some l → l < 9223372036854775808)
+    → ((r : ℕ) → reservation ≡ Some r → r ≤ MAX_RESERVATION) → ((l : ℕ) → limit ≡ Some l → l ≤ MAX_LIMIT)
     → child_of name parent reservation limit ≡ Some line → HasBounds line
 child_bounds name parent (Some r) (Some l) line named reserved limited is = from_some HasBounds (Child name parent r l) line (reserved r refl, limited l refl, named) is
 child_bounds name parent (Some r) None line named reserved limited is = from_none HasBounds line is
@@ -72,7 +73,7 @@ child_bounds name parent None limit line named reserved limited is = from_none H
 
 -- and a slice's
 slice_bounds : (name source : List ℕ) (start length : Option ℕ) (line : Line)
-    → ((f : ℕ) → start ≡ Some f → f < 9223372036854775808) → ((l : ℕ) → length ≡ Some l → l < 9223372036854775808)
+    → ((f : ℕ) → start ≡ Some f → f ≤ MAX_LIMIT) → ((l : ℕ) → length ≡ Some l → l ≤ MAX_LIMIT)
     → slice_of name source start length ≡ Some line → HasBounds line
 slice_bounds name source (Some f) (Some l) line started ended is = from_some HasBounds (Slice name source f l) line (started f refl, ended l refl) is
 slice_bounds name source (Some f) None line started ended is = from_none HasBounds line is
@@ -87,23 +88,23 @@ line_bounds (word ∷ []) line is =
     (from_if HasBounds (bytes_eq word (codes "report")) (Some Report) None line (from_some HasBounds Report line tt) (from_none HasBounds line)) is
 line_bounds (word ∷ other ∷ []) line is =
     let none = from_none HasBounds line in
-    let named : (f : List ℕ → Line) → ((name : List ℕ) → HasBounds (f name)) → option_map f (name_of other) ≡ Some line → HasBounds line =
-    λ f free. from_map HasBounds f (name_of other) line (λ name found. free name) in
+    let named : (f : List ℕ → Line) → ((name : List ℕ) → HasBounds (f name)) → option_map f (name_word other) ≡ Some line → HasBounds line =
+    λ f free. from_map HasBounds f (name_word other) line (λ name found. free name) in
     from_if HasBounds (bytes_eq word (codes "root")) (option_map Root (number_of other)) _ line
     (from_map HasBounds Root (number_of other) line (number_bound other))
-    (from_if HasBounds (bytes_eq word (codes "release")) (option_map Release (name_of other)) _ line (named Release (λ name. tt))
-    (from_if HasBounds (bytes_eq word (codes "close")) (option_map Close (name_of other)) _ line (named Close (λ name. tt))
-    (from_if HasBounds (bytes_eq word (codes "headroom")) (option_map Headroom (name_of other)) None line (named Headroom (λ name. tt)) none))) is
+    (from_if HasBounds (bytes_eq word (codes "release")) (option_map Release (name_word other)) _ line (named Release (λ name. tt))
+    (from_if HasBounds (bytes_eq word (codes "close")) (option_map Close (name_word other)) _ line (named Close (λ name. tt))
+    (from_if HasBounds (bytes_eq word (codes "headroom")) (option_map Headroom (name_word other)) None line (named Headroom (λ name. tt)) none))) is
 line_bounds (word ∷ name ∷ at ∷ []) line is = from_none HasBounds line is
 line_bounds (word ∷ name ∷ other ∷ last ∷ []) line is =
     let none = from_none HasBounds line in
-    let named : (f : List ℕ → Line) → ((at : List ℕ) → HasBounds (f at)) → option_map f (name_of last) ≡ Some line → HasBounds line =
-    λ f free. from_map HasBounds f (name_of last) line (λ at found. free at) in
+    let named : (f : List ℕ → Line) → ((at : List ℕ) → HasBounds (f at)) → option_map f (name_word last) ≡ Some line → HasBounds line =
+    λ f free. from_map HasBounds f (name_word last) line (λ at found. free at) in
     from_if HasBounds (not (is_name name && is_name other)) None _ line none
     (from_if HasBounds (bytes_eq word (codes "buffer")) (option_map (Buffer name other) (number_of last)) _ line
     (from_map HasBounds (Buffer name other) (number_of last) line (λ s found. tt))
-    (from_if HasBounds (bytes_eq word (codes "retain")) (option_map (Retain name other) (name_of last)) _ line (named (Retain name other) (λ at. tt))
-    (from_if HasBounds (bytes_eq word (codes "transfer")) (option_map (Transfer name other) (name_of last)) None line (named (Transfer name other) (λ at. tt)) none))) is
+    (from_if HasBounds (bytes_eq word (codes "retain")) (option_map (Retain name other) (name_word last)) _ line (named (Retain name other) (λ at. tt))
+    (from_if HasBounds (bytes_eq word (codes "transfer")) (option_map (Transfer name other) (name_word last)) None line (named (Transfer name other) (λ at. tt)) none))) is
 line_bounds (word ∷ name ∷ other ∷ first ∷ last ∷ []) line is =
     let none = from_none HasBounds line in
     from_unless HasBounds (is_name name && is_name other) _ line (λ named.
@@ -123,7 +124,7 @@ says_bounds (first ∷ words) (line ∷ said) each =
     All-cons HasBounds line said (line_bounds first line here) (says_bounds words said rest)
 
 -- and so is the root's limit
-limit_bound : (lines : List Line) → All HasBounds lines → limit_of lines < 9223372036854775808
+limit_bound : (lines : List Line) → All HasBounds lines → limit_of lines ≤ MAX_LIMIT
 limit_bound (Root limit ∷ lines) all = all 0 (Root limit) (omega arith)
 limit_bound _ all = omega arith
 
@@ -132,6 +133,6 @@ pub script_bounds : (form : Form) (text : List (List ℕ)) (script : ScriptParts
 script_bounds form text script is = says_bounds (commands_of text) (lines_of script) is.lines.each
 
 -- so is its limit
-pub script_limit : (form : Form) (text : List (List ℕ)) (script : ScriptParts) → IsScript form text script → script.limit < 9223372036854775808
+pub script_limit : (form : Form) (text : List (List ℕ)) (script : ScriptParts) → IsScript form text script → script.limit ≤ MAX_LIMIT
 script_limit form text script is =
-    subst (λ limit. limit < 9223372036854775808) (sym is.limit) (limit_bound (lines_of script) (script_bounds form text script is))
+    subst (λ limit. limit ≤ MAX_LIMIT) (sym is.limit) (limit_bound (lines_of script) (script_bounds form text script is))

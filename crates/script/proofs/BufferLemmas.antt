@@ -7,11 +7,11 @@ use Rattle.std.proofs.lemmas.Bool.{cases_Bool, true≢false}
 use Rattle.std.proofs.lemmas.List.Elements.{All-head, All-tail, All-push}
 use Rattle.indexmap.specs.IndexMap.{insert_entry}
 use Rattle.script.specs.declared.buffer.Buffer.{Buffer}
-use Rattle.script.specs.Bound.{AreWithin, IsWithin, binding_of, bindings_of}
+use Rattle.script.specs.Bound.{AreWithin, IsWithin, buffer_binding, buffer_bindings}
 use Rattle.script.specs.Buffers.{buffer_of}
 
 -- a name is looked up among entries as among bindings
-pub lookup-bindings : (entries : List (Bor (List ℕ) × Buffer)) (name : List ℕ) → lookup (λ key. bytes_eq name key.now) entries ≡ buffer_of (bindings_of entries) name
+pub lookup-bindings : (entries : List (Bor (List ℕ) × Buffer)) (name : List ℕ) → lookup (λ key. bytes_eq name key.now) entries ≡ buffer_of (buffer_bindings entries) name
 lookup-bindings [] name = refl
 lookup-bindings (entry ∷ entries) name = elim (cases_Bool (bytes_eq name entry.0.now)) [
   | inl same ↦ rw same refl
@@ -19,20 +19,20 @@ lookup-bindings (entry ∷ entries) name = elim (cases_Bool (bytes_eq name entry
 ]
 
 -- an entry that is inserted for a free name is a binding behind the others
-inserted : (entries : List (Bor (List ℕ) × Buffer)) (key : Bor (List ℕ)) (buffer : Buffer) → is_some (buffer_of (bindings_of entries) key.now) ≡ false
-    → bindings_of (insert_entry (λ a b. bytes_eq a.now b.now) entries key buffer) ≡ bindings_of entries ++ (key.now, buffer) ∷ []
+inserted : (entries : List (Bor (List ℕ) × Buffer)) (key : Bor (List ℕ)) (buffer : Buffer) → is_some (buffer_of (buffer_bindings entries) key.now) ≡ false
+    → buffer_bindings (insert_entry (λ a b. bytes_eq a.now b.now) entries key buffer) ≡ buffer_bindings entries ++ (key.now, buffer) ∷ []
 inserted [] key buffer free = refl
 inserted (entry ∷ entries) key buffer free = elim (cases_Bool (bytes_eq key.now entry.0.now)) [
-  | inl same ↦ let bound : is_some (buffer_of (bindings_of (entry ∷ entries)) key.now) ≡ true = rw same refl in absurd (true≢false (sym bound ∙ free))
-  | inr other ↦ let later : is_some (buffer_of (bindings_of entries) key.now) ≡ false = rw other at free in
-      rw other (ap (λ more. binding_of entry ∷ more) (inserted entries key buffer later))
+  | inl same ↦ let bound : is_some (buffer_of (buffer_bindings (entry ∷ entries)) key.now) ≡ true = rw same refl in absurd (true≢false (sym bound ∙ free))
+  | inr other ↦ let later : is_some (buffer_of (buffer_bindings entries) key.now) ≡ false = rw other at free in
+      rw other (ap (λ more. buffer_binding entry ∷ more) (inserted entries key buffer later))
 ]
 
-pub bindings-insert : (entries : List (Bor (List ℕ) × Buffer)) (key : Bor (List ℕ)) (name : List ℕ) (buffer : Buffer) → key.now ≡ name → is_some (buffer_of (bindings_of entries) name) ≡ false
-    → bindings_of (insert_entry (λ a b. bytes_eq a.now b.now) entries key buffer) ≡ bindings_of entries ++ (name, buffer) ∷ []
+pub bindings-insert : (entries : List (Bor (List ℕ) × Buffer)) (key : Bor (List ℕ)) (name : List ℕ) (buffer : Buffer) → key.now ≡ name → is_some (buffer_of (buffer_bindings entries) name) ≡ false
+    → buffer_bindings (insert_entry (λ a b. bytes_eq a.now b.now) entries key buffer) ≡ buffer_bindings entries ++ (name, buffer) ∷ []
 bindings-insert entries key name buffer is free =
-    let free' : is_some (buffer_of (bindings_of entries) key.now) ≡ false = ap (λ n. is_some (buffer_of (bindings_of entries) n)) is ∙ free in
-    inserted entries key buffer free' ∙ ap (λ n. bindings_of entries ++ (n, buffer) ∷ []) is
+    let free' : is_some (buffer_of (buffer_bindings entries) key.now) ≡ false = ap (λ n. is_some (buffer_of (buffer_bindings entries) n)) is ∙ free in
+    inserted entries key buffer free' ∙ ap (λ n. buffer_bindings entries ++ (n, buffer) ∷ []) is
 
 -- what a name is bound to is within
 pub bound_within : (bound : List (List ℕ × Buffer)) (name : List ℕ) (result : Option Buffer) → AreWithin bound → result ≡ buffer_of bound name → IfSome result IsWithin

@@ -1,8 +1,8 @@
 -- References that were given, as a list in which each is marked once it is given back.
-use Rattle.std.proofs.Common.{◌≡◌, ℕ, ◌+◌, ◌<◌, ◌≤◌, List, [], ◌∷◌, ◌++◌, Bool, true, false, not, ◌==◌, ◌&&◌, length, get_or, set, cond, refl, sym, ap, subst, ◌∙◌, arith, add-zero, count_by, if◌then◌else◌, nat_lt, Option, Some, None, Result, Ok, Err, is_ok}
+use Rattle.std.proofs.Common.{◌≡◌, ℕ, ◌+◌, ◌≤◌, List, [], ◌∷◌, ◌++◌, Bool, true, false, not, ◌==◌, get_or, set, cond, refl, sym, ap, subst, ◌∙◌, arith, count_by, if◌then◌else◌, nat_lt, Option, Some, None, Result, Ok, Err}
 use Rattle.std.specs.List.{slice_get}
 use Rattle.std.specs.Option.{option_map, option_map_or}
-use Rattle.std.proofs.lemmas.Bool.{cases_Bool, cond_both, cond-false, cond-true, eq-eqb, ne_eqb, eqb-false, ltb-false}
+use Rattle.std.proofs.lemmas.Bool.{cond_both, cond-false, cond-true, ne_eqb, eqb-false}
 use Rattle.std.proofs.lemmas.List.Sums.{get_or-le-sum_by, sum_by-set, sum_by_push}
 use Rattle.std.proofs.lemmas.Option.{get_or_from_slice_get, slice_get_within}
 use Rattle.mem_num.specs.Rounded.{rounded_size}
@@ -16,7 +16,7 @@ use Rattle.mem_model.specs.declared.charge.Charge.{Charge}
 use Rattle.mem_model.specs.declared.tree_node.TreeNode.{TreeNode}
 use Rattle.mem_model.specs.Calls.{granted_by, one_if_ok}
 use Rattle.mem_model.specs.Chunk.{Chunk}
-use Rattle.mem_model.specs.CountedReferences.{is_reference_to, one_to, one_given, one_moved, one_taken, references_to}
+use Rattle.mem_model.specs.CountedReferences.{one_to, one_taken}
 use Rattle.mem_model.specs.Grant.{charge_answer, grant_result}
 use Rattle.mem_model.specs.LawfulState.{IsLawfulState}
 use Rattle.mem_model.specs.References.{reference_to, referred_chunk, released_at}
@@ -29,7 +29,6 @@ use Rattle.mem_model.proofs.ReferenceLemmas.{referred_lawful}
 use Rattle.script.specs.declared.buffer.Buffer.{Buffer}
 use Rattle.script.specs.declared.buffer.GivenRef.{GivenRef}
 use Rattle.script.specs.Buffers.{BufferNames, buffer_of, source_in, source_of}
-use Rattle.script.specs.References.{is_live, is_live_to}
 
 -- the buffer of a name has a reference that was given
 source_mapped : (given : List GivenRef) (buffer : Buffer) (found : Option GivenRef) (source : Buffer × GivenRef) → slice_get given buffer.place ≡ found

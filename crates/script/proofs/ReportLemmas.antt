@@ -1,22 +1,19 @@
 -- Every report of a trace is lawful.
-use Rattle.std.proofs.Common.{◌≡◌, ℕ, ◌+◌, ◌<◌, ◌^◌, List, [], ◌∷◌, ◌++◌, length, All, ap, subst, ◌∙◌, arith, length-append, zero-add, get_or, is_some}
+use Rattle.std.proofs.Common.{◌≡◌, ℕ, ◌<◌, ◌^◌, List, [], ◌∷◌, ◌++◌, length, All, ap, subst, ◌∙◌, arith, length-append, zero-add, get_or, is_some}
 use Rattle.std.proofs.lemmas.List.{get_or_append_left}
 use Rattle.std.proofs.lemmas.List.Elements.{All-cons, All-nil}
 use Rattle.std.proofs.lemmas.Option.{slice_get-get_or}
-use Rattle.mem_num.specs.declared.alloc_id.AllocId.{AllocId}
-use Rattle.mem_model.specs.Chunk.{Chunk}
 use Rattle.mem_model.specs.PeakSample.{peak_of}
 use Rattle.mem_model.proofs.SampleLemmas.{peak_of-small}
 use Rattle.alloc_tree.specs.Names.{AreNames}
 use Rattle.leak_report.specs.LawfulReport.{IsLawfulReport}
-use Rattle.leak_report.specs.PrintableTree.{IsPrintable}
 use Rattle.leak_report.proofs.LawfulReportLemmas.{IsLawfulReport-report_text}
 use Rattle.script.specs.declared.form.Form.{Form}
 use Rattle.script.specs.declared.line.Line.{Line}
 use Rattle.script.specs.declared.line.Line.TheVariants.{Report}
 use Rattle.script.specs.Grammar.{HasBounds, ScriptParts, IsScript, lines_of}
-use Rattle.script.specs.References.{KeepsReferences, is_live}
-use Rattle.script.specs.Trace.{TraceState, line_result, opened_trace, state_after, text_of, trace_text}
+use Rattle.script.specs.References.{KeepsReferences}
+use Rattle.script.specs.Trace.{line_result, opened_trace, trace_after, text_of, trace_text}
 use Rattle.script.proofs.BoundLemmas.{script_bounds, script_limit}
 use Rattle.script.proofs.SoundTraceLemmas.{IsSoundTrace, lines_sound, live_referred, opened_sound}
 use Rattle.script.proofs.TraceLemmas.{text_of-append}
@@ -27,17 +24,17 @@ All-prefix P xs ys all k d within = subst P (get_or_append_left xs ys d k within
 
 -- the lines of a script before some others lead to a sound state
 script_sound : (form : Form) (text : List (List ℕ)) (script : ScriptParts) (said more : List Line) → IsScript form text script → lines_of script ≡ said ++ more
-    → IsSoundTrace (length said) (state_after (opened_trace script.limit) said) × (length said < 2 ^ 32)
+    → IsSoundTrace (length said) (trace_after (opened_trace script.limit) said) × (length said < 2 ^ 32)
 script_sound form text script said more is split =
     let all' : All HasBounds (said ++ more) = subst (All HasBounds) split (script_bounds form text script is) in
     let few : length said < 2 ^ 32 = omega (arith, is.lines.few_lines, ap (λ (lines : List Line). length lines) split, length-append said more) in
-    (subst (λ n. IsSoundTrace n (state_after (opened_trace script.limit) said)) (zero-add (length said)) (lines_sound 0 (opened_trace script.limit) said (All-prefix HasBounds said more all') (omega (arith, few)) (opened_sound script.limit (script_limit form text script is))), few)
+    (subst (λ n. IsSoundTrace n (trace_after (opened_trace script.limit) said)) (zero-add (length said)) (lines_sound 0 (opened_trace script.limit) said (All-prefix HasBounds said more all') (omega (arith, few)) (opened_sound script.limit (script_limit form text script is))), few)
 
 -- the report that a script asks for after some lines is lawful
 pub report_lawful : (form : Form) (text : List (List ℕ)) (script : ScriptParts) (said more : List Line) → IsScript form text script
-    → lines_of script ≡ said ++ Report ∷ more → IsLawfulReport (line_result (state_after (opened_trace script.limit) said) Report).text
+    → lines_of script ≡ said ++ Report ∷ more → IsLawfulReport (line_result (trace_after (opened_trace script.limit) said) Report).text
 report_lawful form text script said more is split =
-    let state = state_after (opened_trace script.limit) said in
+    let state = trace_after (opened_trace script.limit) said in
     let both = script_sound form text script said (Report ∷ more) is split in
     let sound = both.0 in
     IsLawfulReport-report_text (state.names ∷ []) (peak_of state.samples) state.tree sound.lawful (record {
@@ -49,16 +46,16 @@ report_lawful form text script said more is split =
 
 -- and stands in the text of the script, behind what those lines print
 pub report_printed : (script : ScriptParts) (said more : List Line) → lines_of script ≡ said ++ Report ∷ more
-    → let state = state_after (opened_trace script.limit) said in
+    → let state = trace_after (opened_trace script.limit) said in
     trace_text script ≡ text_of (opened_trace script.limit) said ++ ((line_result state Report).text ++ text_of state more)
 report_printed script said more split =
     ap (text_of (opened_trace script.limit)) split ∙ text_of-append (opened_trace script.limit) said (Report ∷ more)
 
 -- after some lines of a script the references are those that were given and not given back
 pub references_kept : (form : Form) (text : List (List ℕ)) (script : ScriptParts) (said more : List Line) → IsScript form text script → lines_of script ≡ said ++ more
-    → KeepsReferences (state_after (opened_trace script.limit) said)
+    → KeepsReferences (trace_after (opened_trace script.limit) said)
 references_kept form text script said more is split =
-    let state = state_after (opened_trace script.limit) said in
+    let state = trace_after (opened_trace script.limit) said in
     let sound = (script_sound form text script said more is split).0 in
     record {
       counts = sound.counts;

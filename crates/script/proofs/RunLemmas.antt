@@ -12,10 +12,10 @@ use Rattle.script.specs.Reading.{MayFollow, script_of}
 use Rattle.script.specs.Running.{HasCome, HasRun, printed_by}
 use Rattle.mem_model.specs.DrawnNumbers.{DrawsNumbers}
 use Rattle.script.specs.Shown.{IsAt, HasNumbers, PrintsLine}
-use Rattle.script.specs.Trace.{line_result, opened_trace, text_of, state_after, trace_text}
+use Rattle.script.specs.Trace.{line_result, opened_trace, text_of, trace_after, trace_text}
 use Rattle.mem_model.proofs.DrawnLemmas.{draws_nothing}
 use Rattle.script.proofs.NumberLemmas.{numbers-left}
-use Rattle.script.proofs.TraceLemmas.{text_of-append, state_after-append}
+use Rattle.script.proofs.TraceLemmas.{text_of-append, trace_after-append}
 
 -- what the first line sets stays set
 limit-first : (first : Line) (said more : List Line) → limit_of (first ∷ said ++ more) ≡ limit_of (first ∷ said)
@@ -29,12 +29,12 @@ printed_before (first ∷ said) line = ap (λ limit. text_of (opened_trace limit
 
 -- what lines print with one more
 printed-push : (said : List Line) (line : Line)
-    → printed_by (said ++ line ∷ []) ≡ printed_by said ++ (line_result (state_after (opened_trace (limit_of (said ++ line ∷ []))) said) line).text
+    → printed_by (said ++ line ∷ []) ≡ printed_by said ++ (line_result (trace_after (opened_trace (limit_of (said ++ line ∷ []))) said) line).text
 printed-push said line =
     let start = opened_trace (limit_of (said ++ line ∷ [])) in
     text_of-append start said (line ∷ [])
-    ∙ ap (λ text. text_of start said ++ text) (append-nil (line_result (state_after start said) line).text)
-    ∙ ap (λ text. text ++ (line_result (state_after start said) line).text) (printed_before said line)
+    ∙ ap (λ text. text_of start said ++ text) (append-nil (line_result (trace_after start said) line).text)
+    ∙ ap (λ text. text ++ (line_result (trace_after start said) line).text) (printed_before said line)
 
 -- a line more was run
 pub one_more_run : (form : Form) (said : List Line) (line : Line) (before out earlier text : List ℕ) (opened : Trace) (running : Running)
@@ -43,14 +43,14 @@ pub one_more_run : (form : Form) (said : List Line) (line : Line) (before out ea
     → out ≡ before ++ printed_by said → HasRun running (said ++ line ∷ []) before (out ++ text)
 one_more_run form said line before out earlier text opened running come may counted none prints draws printed =
     let start = opened_trace (limit_of (said ++ line ∷ [])) in
-    let now = state_after start said in
+    let now = trace_after start said in
     let done = prints now come.here in
     let added : text ≡ (line_result now line).text = done.0 ∙ ap (λ e. e ++ (line_result now line).text) none in
     let lengths = length-append said (line ∷ []) in
     record {
       counted = counted;
       come = record {
-        here = subst (IsAt running.trace) (sym (state_after-append start said (line ∷ []))) done.1;
+        here = subst (IsAt running.trace) (sym (trace_after-append start said (line ∷ []))) done.1;
         numbers = numbers-left _ _ 1 _ _ come.numbers draws (omega (arith, may.few_lines, lengths));
       };
       printed = ap (λ o. o ++ text) printed ∙ append_assoc before (printed_by said) text

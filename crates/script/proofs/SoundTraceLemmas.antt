@@ -1,18 +1,19 @@
 -- What holds of every state that a trace comes to.
-use Rattle.std.proofs.Common.{◌≡◌, ℕ, ◌+◌, ◌<◌, ◌≤◌, ◌^◌, Bool, true, false, not, ◌&&◌, List, [], ◌∷◌, ◌++◌, length, set, cond, count_by, Option, Some, None, All, Result, Ok, Err, if◌then◌else◌, refl, sym, ap, subst, ◌∙◌, arith, add-zero, inl, inr}
+use Rattle.std.proofs.Common.{◌≡◌, ℕ, ◌+◌, ◌<◌, ◌≤◌, ◌^◌, Bool, true, false, not, ◌&&◌, List, [], ◌∷◌, ◌++◌, length, cond, count_by, Option, Some, None, All, Result, Ok, Err, if◌then◌else◌, refl, sym, ap, subst, ◌∙◌, arith, add-zero, inl, inr}
 use Rattle.std.specs.Bool.{◌==◌, nat_lt}
 use Rattle.std.specs.List.{slice_get}
 use Rattle.std.specs.Option.{option_map_or}
 use Rattle.std.specs.Prelude.{is_some}
 use Rattle.std.proofs.lemmas.Bool.{and_from, and_parts, cases_lt, cond-true, eq-eqb, false≢true}
-use Rattle.std.proofs.lemmas.List.Elements.{All-append, All-cons, All-head, All-nil, All-push, All-tail}
+use Rattle.std.proofs.lemmas.List.Elements.{All-append, All-head, All-nil, All-push, All-tail}
+use Rattle.mem_num.specs.declared.bounds.TheConstants.{MAX_LIMIT}
 use Rattle.mem_num.specs.Name.{is_name}
 use Rattle.mem_num.specs.declared.alloc_id.AllocId.{AllocId}
 use Rattle.mem_num.specs.declared.buffer_ref.Ref.{Ref}
 use Rattle.mem_num.specs.declared.buffer_refused.BufferRefused.{BufferRefused}
 use Rattle.mem_num.specs.declared.child_refused.ChildRefused.{ChildRefused}
 use Rattle.mem_num.specs.declared.solo_refused.SoloRefused.{SoloRefused}
-use Rattle.mem_model.specs.Calls.{TreeCall, Child as ChildCall, Close as CloseCall, Grant as GrantCall, Retain as RetainCall, Transfer as TransferCall, Release as ReleaseCall, IsBoundedCall, after_call, call_result, given_by, granted_by, one_if_ok, references_in, returned_by}
+use Rattle.mem_model.specs.Calls.{TreeCall, Child as ChildCall, Close as CloseCall, Grant as GrantCall, Retain as RetainCall, Transfer as TransferCall, Release as ReleaseCall, IsBoundedCall, call_result, given_by, granted_by, one_if_ok, references_in, returned_by}
 use Rattle.mem_model.specs.Chunk.{Chunk}
 use Rattle.mem_model.specs.CountedReferences.{given_to, is_reference_to, one_given, one_moved, one_to, references_to, taken_from}
 use Rattle.mem_model.specs.DrawnNumbers.{HaveReferences}
@@ -20,27 +21,26 @@ use Rattle.mem_model.specs.Grant.{grant_result}
 use Rattle.mem_model.specs.LawfulState.{IsLawfulState}
 use Rattle.mem_model.specs.Ledgers.{total_of}
 use Rattle.mem_model.specs.References.{referred_chunk}
-use Rattle.mem_model.specs.Release.{release_result}
 use Rattle.mem_model.specs.Retain.{retain_result}
 use Rattle.mem_model.specs.Transfer.{transfer_result}
-use Rattle.mem_model.specs.TreeState.{TreeState, opened}
+use Rattle.mem_model.specs.TreeState.{TreeState}
 use Rattle.mem_model.proofs.CallBalanceLemmas.{references-call}
 use Rattle.mem_model.proofs.CallsLemmas.{lawful-after_call}
 use Rattle.mem_model.proofs.CountedLemmas.{counted-call, referred-counted}
 use Rattle.mem_model.proofs.DrawnLemmas.{call_draws}
 use Rattle.mem_model.proofs.LawfulLemmas.{opened_lawful}
 use Rattle.mem_model.proofs.SampleLemmas.{AreSmall, IsSmall, call_small}
-use Rattle.alloc_tree.specs.Names.{AreNames, allocator_of, is_bound, root_binding}
+use Rattle.alloc_tree.specs.Names.{AreNames, allocator_of, is_bound}
 use Rattle.alloc_tree.proofs.NamesLemmas.{AreLawful-root}
 use Rattle.script.specs.declared.buffer.Buffer.{Buffer}
 use Rattle.script.specs.declared.buffer.GivenRef.{GivenRef}
 use Rattle.script.specs.declared.line.Line.{Line}
 use Rattle.script.specs.declared.line.Line.TheVariants.{Root, Child, Buffer as NewBuffer, Retain, Transfer, Slice, Release, Close, Headroom, Tree, Report}
-use Rattle.script.specs.Buffers.{BufferNames, buffer_of, no_buffers, source_of, with_given_back}
+use Rattle.script.specs.Buffers.{BufferNames, buffer_of, source_of, with_given_back}
 use Rattle.script.specs.Grammar.{HasBounds}
 use Rattle.script.specs.References.{is_live, is_live_to}
-use Rattle.script.specs.Trace.{TraceState, LineResult, buffers_after, line_result, names_after, opened_trace, release_line, retain_line, retained_after, slice_line, state_after, transfer_line, transferred_after}
-use Rattle.script.proofs.GivenLemmas.{count_given, count_given_back, counted_there, grant_live, just_given, one_live, release_is_ok, release_taken, retain_live, source_given, transfer_live}
+use Rattle.script.specs.Trace.{TraceState, LineResult, buffers_after, line_result, names_after, opened_trace, release_line, retain_line, retained_after, slice_line, trace_after, transfer_line, transferred_after}
+use Rattle.script.proofs.GivenLemmas.{count_given, count_given_back, counted_there, grant_live, release_is_ok, release_taken, retain_live, source_given, transfer_live}
 
 -- a trace that has come to a state by so many lines
 pub record IsSoundTrace (lines : ℕ) (state : TraceState) : Type 0 where
@@ -241,15 +241,15 @@ line_sound lines state Tree bounds few sound = same lines state sound
 line_sound lines state Report bounds few sound = same lines state sound
 
 -- and so do some lines
-pub lines_sound : (lines : ℕ) (state : TraceState) (said : List Line) → All HasBounds said → lines + length said < 2 ^ 32 → IsSoundTrace lines state → IsSoundTrace (lines + length said) (state_after state said)
+pub lines_sound : (lines : ℕ) (state : TraceState) (said : List Line) → All HasBounds said → lines + length said < 2 ^ 32 → IsSoundTrace lines state → IsSoundTrace (lines + length said) (trace_after state said)
 lines_sound lines state [] all few sound = subst (λ n. IsSoundTrace n state) (sym (add-zero lines)) sound
 lines_sound lines state (line ∷ said) all few sound =
     let after = (line_result state line).state in
-    subst (λ n. IsSoundTrace n (state_after after said)) (omega arith)
+    subst (λ n. IsSoundTrace n (trace_after after said)) (omega arith)
     (lines_sound (lines + 1) after said (All-tail HasBounds line said all) (omega (arith, few)) (line_sound lines state line (All-head HasBounds line said all) (omega (arith, few)) sound))
 
 -- a trace opens in one
-pub opened_sound : (limit : ℕ) → limit < 2 ^ 63 → IsSoundTrace 0 (opened_trace limit)
+pub opened_sound : (limit : ℕ) → limit ≤ MAX_LIMIT → IsSoundTrace 0 (opened_trace limit)
 opened_sound limit small = record {
   lawful = opened_lawful limit small;
   names = AreLawful-root.names;

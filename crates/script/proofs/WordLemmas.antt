@@ -1,20 +1,17 @@
 -- Names and numbers are text, no number is above the bound, and the first byte that is no blank skips a line or not.
-use Rattle.std.proofs.Common.{◌≡◌, sym, refl, ℕ, List, [], ◌∷◌, length, ◌<◌, ◌^◌, ◌+◌, Bool, true, false, not, ltb, leb, eqb, None, Some, Err, rules, arith, tests, inl, inr, IsTrue, filter, take, drop, ap, ◌&&◌}
+use Rattle.std.proofs.Common.{◌≡◌, sym, refl, ℕ, List, [], ◌∷◌, length, ◌<◌, ◌^◌, ◌+◌, Bool, true, false, not, ltb, leb, eqb, None, Some, Err, rules, arith, inl, inr, filter, take, drop, ap, ◌&&◌}
 use Rattle.std.specs.List.{list_all, find, slice_split, onto_first, position}
 use Rattle.std.specs.Option.{option_map_or}
 use Rattle.std.specs.Char.{is_ascii_digit}
 use Rattle.std.specs.Str.{IsUtf8}
 use Rattle.std.specs.Str.Parse.{digits_value, ParsesUnsigned}
 use Rattle.std.proofs.Math.Bool.{and-false}
-use Rattle.std.proofs.lemmas.Bool.{cases_lt, cases_Bool, and_parts}
+use Rattle.std.proofs.lemmas.Bool.{cases_lt, cases_Bool}
 use Rattle.std.proofs.lemmas.Bool.Decides.{nat_tests}
 use Rattle.std.proofs.lemmas.Fmt.{IsAscii-from_digits}
 use Rattle.std.proofs.lemmas.Str.{IsUtf8-from_ascii}
 use Rattle.std.proofs.lemmas.Str.Parse.{IsNumeralModel, numerals_by_value, parse_digits}
-use Rattle.std.proofs.lemmas.List.Sums.{AllPass-from_list_all}
-use Rattle.std.proofs.lemmas.Str.Ascii.{IsAscii-from_all}
-use Rattle.mem_num.specs.Name.{is_name, is_name_byte}
-use Rattle.script.specs.Words.{is_number, number_of, is_blank, is_skipped, words_of, words_with}
+use Rattle.script.specs.Words.{is_numeral, number_of, is_blank, is_skipped, words_of, words_with}
 use Rattle.script.proofs.TextLemmas.{split-at, split-none}
 
 -- each byte is a digit
@@ -31,7 +28,7 @@ digits_utf8 ds h = IsUtf8-from_ascii ds (IsAscii-from_digits ds (numerals.to ds 
 
 -- a value past the bound is no number
 number_of-large : (ds : List ℕ) → 9223372036854775807 < digits_value 10 ds → None ≡ number_of ds
-unfolding is_number
+unfolding is_numeral
 number_of-large ds h =
     let large : leb (digits_value 10 ds) 9223372036854775807 ≡ false = grind (arith, nat_tests) in
     rw (large, and-false (ltb 0 (length ds) && list_all is_ascii_digit ds)) refl
@@ -45,21 +42,6 @@ number_of-unparsed ds e digits some parsed =
       | inl lt ↦ absurd (refused (some, lt))
       | inr ge ↦ omega arith
     ])
-
--- a byte of a name is ASCII
-is_name_byte-ascii : (byte : ℕ) → is_name_byte byte ≡ true → byte < 128
-is_name_byte-ascii byte h = elim (cases_lt byte 128) [
-  | inl lt ↦ lt
-  | inr ge ↦ absurd (grind (arith, nat_tests, tests))
-]
-
--- a name is text
-pub name_utf8 : (word : List ℕ) → IsTrue (is_name word) → IsUtf8 word
-unfolding is_name
-name_utf8 word h =
-    let bytes : list_all is_name_byte word ≡ true = (and_parts _ _ h).1 in
-    IsUtf8-from_ascii word (IsAscii-from_all word (λ k d lt.
-    is_name_byte-ascii _ (AllPass-from_list_all is_name_byte word bytes k d lt)))
 
 -- a byte that is no blank begins the first word
 is_skipped-onto_first : (byte : ℕ) (parts : List (List ℕ))

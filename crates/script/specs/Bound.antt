@@ -12,9 +12,9 @@ abbrev pub AreWithin : List (List ℕ × Buffer) → Type 0
 AreWithin bound = All (λ binding. IsWithin binding.1) bound
 
 -- the binding of an entry
-abbrev pub binding_of : Bor (List ℕ) × Buffer → List ℕ × Buffer
-binding_of entry = (entry.0.now, entry.1)
+abbrev pub buffer_binding : Bor (List ℕ) × Buffer → List ℕ × Buffer
+buffer_binding entry = (entry.0.now, entry.1)
 
 -- the bindings of a map's entries
-abbrev pub bindings_of : List (Bor (List ℕ) × Buffer) → List (List ℕ × Buffer)
-bindings_of entries = map binding_of entries
+abbrev pub buffer_bindings : List (Bor (List ℕ) × Buffer) → List (List ℕ × Buffer)
+buffer_bindings entries = map buffer_binding entries

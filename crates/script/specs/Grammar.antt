@@ -1,10 +1,10 @@
 -- What a line says, and which lines of text are which script.
-use Rattle.std.specs.Prelude.{◌≡◌, ℕ, ◌-◌, ◌^◌, ◌<◌, ◌≤◌, Bool, true, false, not, ◌&&◌, List, [], ◌∷◌, ◌++◌, length, map, take, drop, count_by, if◌then◌else◌, Option, Some, None, codes, option_map, All}
+use Rattle.std.specs.Prelude.{◌≡◌, ℕ, ◌-◌, ◌≤◌, Bool, true, false, not, ◌&&◌, List, [], ◌∷◌, ◌++◌, length, map, take, drop, count_by, if◌then◌else◌, Option, Some, None, codes, option_map, All}
 use Rattle.std.specs.List.{flat_map}
 use Rattle.std.specs.Str.{bytes_eq}
-use Rattle.mem_num.specs.Name.{is_name}
-use Rattle.mem_num.specs.declared.bounds.TheConstants.{MAX_LIMIT}
-use Rattle.script.specs.Words.{name_of, number_of, reservation_of, commands_of}
+use Rattle.mem_num.specs.Name.{is_name, name_word}
+use Rattle.mem_num.specs.declared.bounds.TheConstants.{MAX_LIMIT, MAX_RESERVATION}
+use Rattle.script.specs.Words.{number_of, reservation_of, commands_of}
 use Rattle.script.specs.declared.form.Form.{Form}
 use Rattle.script.specs.declared.form.Form.TheVariants.{Trace, Drive}
 use Rattle.script.specs.declared.line.Line.{Line}
@@ -30,15 +30,15 @@ line_of (word ∷ []) =
     else None
 line_of (word ∷ other ∷ []) =
     if bytes_eq word (codes "root") then option_map Root (number_of other)
-    else if bytes_eq word (codes "release") then option_map Release (name_of other)
-    else if bytes_eq word (codes "close") then option_map Close (name_of other)
-    else if bytes_eq word (codes "headroom") then option_map Headroom (name_of other)
+    else if bytes_eq word (codes "release") then option_map Release (name_word other)
+    else if bytes_eq word (codes "close") then option_map Close (name_word other)
+    else if bytes_eq word (codes "headroom") then option_map Headroom (name_word other)
     else None
 line_of (word ∷ name ∷ other ∷ last ∷ []) =
     if not (is_name name && is_name other) then None
     else if bytes_eq word (codes "buffer") then option_map (Buffer name other) (number_of last)
-    else if bytes_eq word (codes "retain") then option_map (Retain name other) (name_of last)
-    else if bytes_eq word (codes "transfer") then option_map (Transfer name other) (name_of last)
+    else if bytes_eq word (codes "retain") then option_map (Retain name other) (name_word last)
+    else if bytes_eq word (codes "transfer") then option_map (Transfer name other) (name_word last)
     else None
 line_of (word ∷ name ∷ other ∷ first ∷ last ∷ []) =
     if not (is_name name && is_name other) then None
@@ -76,11 +76,11 @@ abbrev pub limit_of : List Line → ℕ
 limit_of (Root limit ∷ more) = limit
 limit_of lines = MAX_LIMIT
 
--- what holds of a line that was read: a child's name is a name, its reservation is at most 2 ^ 40, and limits and where a slice lies are below 2 ^ 63
+-- what holds of a line that was read: a child's name is a name, and numbers are within their bounds
 abbrev pub HasBounds : Line → Type 0
-HasBounds (Root limit) = limit < 2 ^ 63
-HasBounds (Child name parent reservation limit) = (reservation ≤ 2 ^ 40) × (limit < 2 ^ 63) × (is_name name ≡ true)
-HasBounds (Slice name source start length) = (start < 2 ^ 63) × (length < 2 ^ 63)
+HasBounds (Root limit) = limit ≤ MAX_LIMIT
+HasBounds (Child name parent reservation limit) = (reservation ≤ MAX_RESERVATION) × (limit ≤ MAX_LIMIT) × (is_name name ≡ true)
+HasBounds (Slice name source start length) = (start ≤ MAX_LIMIT) × (length ≤ MAX_LIMIT)
 HasBounds line = Unit {0}
 
 -- a script: the root's limit, and its sections

@@ -154,9 +154,9 @@ text_of state [] = []
 text_of state (line ∷ lines) = (line_result state line).text ++ text_of (line_result state line).state lines
 
 -- what some lines leave
-abbrev pub state_after : TraceState → List Line → TraceState
-state_after state [] = state
-state_after state (line ∷ lines) = state_after (line_result state line).state lines
+abbrev pub trace_after : TraceState → List Line → TraceState
+trace_after state [] = state
+trace_after state (line ∷ lines) = trace_after (line_result state line).state lines
 
 -- what a script prints as a trace
 abbrev pub trace_text : ScriptParts → List ℕ

@@ -3,7 +3,6 @@ use Rattle.std.specs.Prelude.{ℕ, Bool, true, not, ◌&&◌, ◌||◌, nat_le, 
 use Rattle.std.specs.List.{slice_split, list_all}
 use Rattle.std.specs.Char.{is_ascii_digit}
 use Rattle.std.specs.Str.Parse.{digits_value}
-use Rattle.mem_num.specs.Name.{is_name}
 use Rattle.mem_num.specs.declared.bounds.TheConstants.{MAX_LIMIT, MAX_RESERVATION}
 
 -- a space or a tab
@@ -19,22 +18,18 @@ abbrev pub words_with : List ℕ → List (List ℕ) → List (List ℕ)
 words_with part words = if nat_lt 0 (length part) then part ∷ words else words
 
 -- a number is one or more digits, whose value is at most the greatest limit
-unfoldable pub is_number : List ℕ → Bool
-is_number word =
+unfoldable pub is_numeral : List ℕ → Bool
+is_numeral word =
     nat_lt 0 (length word) && list_all is_ascii_digit word && nat_le (digits_value 10 word) MAX_LIMIT
-
--- the name that a word is
-abbrev pub name_of : List ℕ → Option (List ℕ)
-name_of word = if is_name word then Some word else None
 
 -- the value of a number
 abbrev pub number_of : List ℕ → Option ℕ
-number_of word = if is_number word then Some (digits_value 10 word) else None
+number_of word = if is_numeral word then Some (digits_value 10 word) else None
 
 -- the value of a number that is at most the largest reservation
 abbrev pub reservation_of : List ℕ → Option ℕ
 reservation_of word =
-    if is_number word && nat_le (digits_value 10 word) MAX_RESERVATION then Some (digits_value 10 word) else None
+    if is_numeral word && nat_le (digits_value 10 word) MAX_RESERVATION then Some (digits_value 10 word) else None
 
 -- a line is skipped if it has no words, or its first word begins with '#'
 abbrev pub is_skipped : List (List ℕ) → Bool

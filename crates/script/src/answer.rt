@@ -5,19 +5,18 @@ ghost use Rattle.script.specs.Answers.{empty_text, empty_transfer_text, given_ba
 ghost use Rattle.script.specs.Answers.{retain_text, transfer_text, slice_text, outside_text};
 ghost use Rattle.script.specs.Answers.{release_text, close_text, headroom_text};
 
-use crate::name::Name;
 use mem_num::{
-    AllocId, BufferRefused, ChildRefused, Closed, NotClosed, Ref, Released, SoloRefused,
+    AllocId, BufferRefused, ChildRefused, Closed, NameText, NotClosed, Ref, Released, SoloRefused,
 };
 use std::alloc::AllocError;
 
-pub(crate) fn write_taken(text: &mut String, name: &Name) -> Result<(), AllocError>
+pub(crate) fn write_taken(text: &mut String, name: &NameText) -> Result<(), AllocError>
     ensures { OnOk result (string_bytes text.new ≡ string_bytes text.old ++ taken_text name.now) }
 {
     write!(text, "taken {name}\n")
 }
 
-pub(crate) fn write_unknown(text: &mut String, name: &Name) -> Result<(), AllocError>
+pub(crate) fn write_unknown(text: &mut String, name: &NameText) -> Result<(), AllocError>
     ensures { OnOk result (string_bytes text.new ≡ string_bytes text.old ++ unknown_text name.now) }
 {
     write!(text, "unknown {name}\n")
@@ -25,7 +24,7 @@ pub(crate) fn write_unknown(text: &mut String, name: &Name) -> Result<(), AllocE
 
 pub(crate) fn write_child(
     text: &mut String,
-    name: &Name,
+    name: &NameText,
     answer: Result<AllocId, ChildRefused>,
 ) -> Result<(), AllocError>
     ensures { OnOk result (string_bytes text.new
@@ -40,7 +39,7 @@ pub(crate) fn write_child(
 /// Want of memory has no text.
 pub(crate) fn write_buffer(
     text: &mut String,
-    name: &Name,
+    name: &NameText,
     answer: Result<Ref, BufferRefused>,
 ) -> Result<(), AllocError>
     ensures memory { OnOk result (answer ≢ Err BufferRefused.NoMemory) }
@@ -56,7 +55,7 @@ pub(crate) fn write_buffer(
     }
 }
 
-fn write_granted(text: &mut String, name: &Name, buffer: Ref) -> Result<(), AllocError>
+fn write_granted(text: &mut String, name: &NameText, buffer: Ref) -> Result<(), AllocError>
     ensures { OnOk result (string_bytes text.new
         ≡ string_bytes text.old ++ buffer_text name.now (Ok buffer)) }
 {
@@ -70,14 +69,14 @@ fn write_granted(text: &mut String, name: &Name, buffer: Ref) -> Result<(), Allo
 }
 
 /// The answer to a call on the empty buffer.
-pub(crate) fn write_empty(text: &mut String, call: &str, name: &Name) -> Result<(), AllocError>
+pub(crate) fn write_empty(text: &mut String, call: &str, name: &NameText) -> Result<(), AllocError>
     ensures { OnOk result (string_bytes text.new
         ≡ string_bytes text.old ++ empty_text call.now name.now) }
 {
     write!(text, "{call} {name} empty\n")
 }
 
-pub(crate) fn write_empty_transfer(text: &mut String, name: &Name) -> Result<(), AllocError>
+pub(crate) fn write_empty_transfer(text: &mut String, name: &NameText) -> Result<(), AllocError>
     ensures { OnOk result (string_bytes text.new
         ≡ string_bytes text.old ++ empty_transfer_text name.now) }
 {
@@ -106,7 +105,7 @@ fn write_refused(text: &mut String, refused: SoloRefused) -> Result<(), AllocErr
 
 pub(crate) fn write_retain(
     text: &mut String,
-    name: &Name,
+    name: &NameText,
     answer: Result<Ref, SoloRefused>,
 ) -> Result<(), AllocError>
     ensures memory { OnOk result (answer ≢ Err SoloRefused.NoMemory) }
@@ -121,7 +120,7 @@ pub(crate) fn write_retain(
 
 pub(crate) fn write_transfer(
     text: &mut String,
-    name: &Name,
+    name: &NameText,
     answer: Result<(Ref, bool), SoloRefused>,
 ) -> Result<(), AllocError>
     ensures memory { OnOk result (answer ≢ Err SoloRefused.NoMemory) }
@@ -139,7 +138,7 @@ pub(crate) fn write_transfer(
 
 pub(crate) fn write_slice(
     text: &mut String,
-    name: &Name,
+    name: &NameText,
     start: u64,
     len: u64,
 ) -> Result<(), AllocError>
@@ -157,7 +156,7 @@ pub(crate) fn write_outside(text: &mut String, len: u64) -> Result<(), AllocErro
 
 pub(crate) fn write_release(
     text: &mut String,
-    name: &Name,
+    name: &NameText,
     answer: Result<bool, Released>,
 ) -> Result<(), AllocError>
     ensures { OnOk result (string_bytes text.new
@@ -172,7 +171,7 @@ pub(crate) fn write_release(
 
 pub(crate) fn write_close(
     text: &mut String,
-    name: &Name,
+    name: &NameText,
     at: AllocId,
     answer: Result<(), NotClosed>,
 ) -> Result<(), AllocError>
@@ -188,7 +187,7 @@ pub(crate) fn write_close(
 
 pub(crate) fn write_headroom(
     text: &mut String,
-    name: &Name,
+    name: &NameText,
     answer: Result<i128, Closed>,
 ) -> Result<(), AllocError>
     ensures { OnOk result (string_bytes text.new

@@ -4,9 +4,8 @@ ghost use Rattle.script.specs.Bound.{IsWithin};
 ghost use Rattle.script.specs.Buffers.{buffer_of, source_of, no_buffers, with_part, with_reference, with_given_back};
 
 use crate::buffer::{Buffer, GivenRef};
-use crate::name::Name;
 use indexmap::IndexMap;
-use mem_num::Ref;
+use mem_num::{NameText, Ref};
 use std::alloc::{AllocError, Global};
 use std::marker::Model;
 
@@ -19,13 +18,13 @@ pub(crate) struct Buffers<'a> {
 
 impl<'a> Model for Buffers<'a> {
     ghost use Rattle.script.specs.Buffers.{BufferNames};
-    ghost use Rattle.script.specs.Bound.{AreWithin, bindings_of};
+    ghost use Rattle.script.specs.Bound.{AreWithin, buffer_bindings};
 
     ghost Value = { BufferNames };
 
-    ghost view = { λ buffers. record { bound = bindings_of buffers.bound.entries; given = buffers.given.items } };
+    ghost view = { λ buffers. record { bound = buffer_bindings buffers.bound.entries; given = buffers.given.items } };
 
-    ghost invariant = { λ buffers. AreWithin (bindings_of buffers.bound.entries) };
+    ghost invariant = { λ buffers. AreWithin (buffer_bindings buffers.bound.entries) };
 }
 
 impl<'a> Buffers<'a> {
@@ -40,13 +39,13 @@ impl<'a> Buffers<'a> {
     }
 
     /// Whether a name is bound. Takes no memory.
-    pub(crate) fn is_bound(&self, name: &Name) -> bool
+    pub(crate) fn is_bound(&self, name: &NameText) -> bool
         ensures { result ≡ is_some (buffer_of self.now.bound name.now) }
     {
         self.find(name).is_some()
     }
 
-    fn find(&self, name: &Name) -> Option<Buffer>
+    fn find(&self, name: &NameText) -> Option<Buffer>
         ensures value { result ≡ buffer_of self.now.bound name.now }
         ensures fits { IfSome result IsWithin }
     {
@@ -54,7 +53,7 @@ impl<'a> Buffers<'a> {
     }
 
     /// The buffer that a name is bound to, with its reference. Takes no memory.
-    pub(crate) fn source(&self, name: &Name) -> Option<(Buffer, GivenRef)>
+    pub(crate) fn source(&self, name: &NameText) -> Option<(Buffer, GivenRef)>
         ensures value { result ≡ source_of self.now name.now }
         ensures within { IfSome result (λ source. source.0.place < length self.now.given) }
         ensures fits { IfSome result (λ source. IsWithin source.0) }
@@ -65,7 +64,7 @@ impl<'a> Buffers<'a> {
     }
 
     /// Binds a free name to some bytes of a reference that was given before.
-    pub(crate) fn share(&mut self, name: &Name<'a>, buffer: Buffer) -> Result<(), AllocError>
+    pub(crate) fn share(&mut self, name: &NameText<'a>, buffer: Buffer) -> Result<(), AllocError>
         requires free { is_some (buffer_of self.old.bound name.now) ≡ false }
         requires fits { IsWithin buffer }
         ensures { OnOk result (self.new ≡ with_part self.old name.now buffer) }
@@ -77,7 +76,7 @@ impl<'a> Buffers<'a> {
     /// Binds a free name to some bytes of a new reference.
     pub(crate) fn give(
         &mut self,
-        name: &Name<'a>,
+        name: &NameText<'a>,
         reference: Ref,
         start: u64,
         len: u64,

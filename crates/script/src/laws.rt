@@ -3,7 +3,7 @@ ghost use Rattle.std.specs.Prelude.{◌≡◌, ℕ, List, ◌∷◌, ◌++◌};
 ghost use Rattle.leak_report.specs.LawfulReport.{IsLawfulReport};
 ghost use Rattle.script.specs.Grammar.{ScriptParts, IsScript, lines_of};
 ghost use Rattle.script.specs.References.{KeepsReferences};
-ghost use Rattle.script.specs.Trace.{line_result, opened_trace, state_after, text_of, trace_text};
+ghost use Rattle.script.specs.Trace.{line_result, opened_trace, trace_after, text_of, trace_text};
 ghost use Rattle.script.specs.declared.form.Form.TheVariants as form;
 ghost use Rattle.script.specs.declared.line.Line.{Line};
 ghost use Rattle.script.specs.declared.line.Line.TheVariants.{Report};
@@ -13,10 +13,10 @@ ghost use Rattle.script.specs.declared.line.Line.TheVariants.{Report};
 pub fn reports_of_a_trace_are_lawful()
     ensures lawful { (text : List (List ℕ)) (script : ScriptParts) (said more : List Line) →
         IsScript form.Trace text script → lines_of script ≡ said ++ Report ∷ more →
-        IsLawfulReport (line_result (state_after (opened_trace script.limit) said) Report).text }
+        IsLawfulReport (line_result (trace_after (opened_trace script.limit) said) Report).text }
     ensures printed { (script : ScriptParts) (said more : List Line) →
         lines_of script ≡ said ++ Report ∷ more →
-        let state = state_after (opened_trace script.limit) said in
+        let state = trace_after (opened_trace script.limit) said in
         trace_text script ≡ text_of (opened_trace script.limit) said
         ++ ((line_result state Report).text ++ text_of state more) }
 {}
@@ -27,5 +27,5 @@ pub fn reports_of_a_trace_are_lawful()
 pub fn references_of_a_trace_are_those_given()
     ensures { (text : List (List ℕ)) (script : ScriptParts) (said more : List Line) →
         IsScript form.Trace text script → lines_of script ≡ said ++ more →
-        KeepsReferences (state_after (opened_trace script.limit) said) }
+        KeepsReferences (trace_after (opened_trace script.limit) said) }
 {}

@@ -4,8 +4,8 @@ ghost use Rattle.std.specs.Str.{bytes_eq};
 ghost use Rattle.script.specs.Words.{words_of};
 ghost use Rattle.script.specs.Grammar.{line_of};
 
-use crate::name::Name;
 use crate::word::{first_word, number_of, reservation_of};
+use mem_num::NameText;
 
 /// A line of a script, by what it asks for, with its words.
 #[derive(Debug, Drop)]
@@ -16,47 +16,47 @@ pub enum Line<'a> {
     },
     /// `child NAME PARENT RES LIMIT`: an allocator below the one that `parent` names, with a reservation and a limit in bytes.
     Child {
-        name: Name<'a>,
-        parent: Name<'a>,
+        name: NameText<'a>,
+        parent: NameText<'a>,
         reservation: u64,
         limit: u64,
     },
     /// `buffer NAME ALLOC SIZE`: a buffer of that many bytes, at the allocator that `at` names.
     Buffer {
-        name: Name<'a>,
-        at: Name<'a>,
+        name: NameText<'a>,
+        at: NameText<'a>,
         size: u64,
     },
     /// `retain NAME SOURCE ALLOC`: the allocator that `at` names refers to the source's chunk, without a charge.
     Retain {
-        name: Name<'a>,
-        source: Name<'a>,
-        at: Name<'a>,
+        name: NameText<'a>,
+        source: NameText<'a>,
+        at: NameText<'a>,
     },
     /// `transfer NAME SOURCE ALLOC`: the same, and the charge moves there from the source.
     Transfer {
-        name: Name<'a>,
-        source: Name<'a>,
-        at: Name<'a>,
+        name: NameText<'a>,
+        source: NameText<'a>,
+        at: NameText<'a>,
     },
     /// `slice NAME SOURCE FROM LEN`: a name for a part of the source, in bytes.
     Slice {
-        name: Name<'a>,
-        source: Name<'a>,
+        name: NameText<'a>,
+        source: NameText<'a>,
         start: u64,
         length: u64,
     },
     /// `release NAME`: the buffer of that name is given back.
     Release {
-        name: Name<'a>,
+        name: NameText<'a>,
     },
     /// `close ALLOC`: the allocator that `at` names is closed.
     Close {
-        at: Name<'a>,
+        at: NameText<'a>,
     },
     /// `headroom ALLOC`: the headroom of the allocator that `at` names is shown.
     Headroom {
-        at: Name<'a>,
+        at: NameText<'a>,
     },
     /// `tree`: the tree of allocators is shown.
     Tree,
@@ -109,7 +109,7 @@ fn with_one<'a>(word: &'a [u8], other: &'a [u8]) -> Option<Line<'a>>
         let limit = number_of(other)?;
         return Some(Line::Root { limit });
     }
-    let at = Name::new(other)?;
+    let at = NameText::new(other)?;
     if is_word(word, "release") {
         Some(Line::Release { name: at })
     } else if is_word(word, "close") {
@@ -131,8 +131,8 @@ fn with_three<'a>(
 ) -> Option<Line<'a>>
     ensures { result ≡ line_of (word.now ∷ name.now ∷ other.now ∷ last.now ∷ []) }
 {
-    let name = Name::new(name)?;
-    let other = Name::new(other)?;
+    let name = NameText::new(name)?;
+    let other = NameText::new(other)?;
     if is_word(word, "buffer") {
         let size = number_of(last)?;
         return Some(Line::Buffer {
@@ -141,7 +141,7 @@ fn with_three<'a>(
             size,
         });
     }
-    let at = Name::new(last)?;
+    let at = NameText::new(last)?;
     if is_word(word, "retain") {
         Some(Line::Retain {
             name,
@@ -170,8 +170,8 @@ fn with_four<'a>(
 ) -> Option<Line<'a>>
     ensures { result ≡ line_of (word.now ∷ name.now ∷ other.now ∷ first.now ∷ last.now ∷ []) }
 {
-    let name = Name::new(name)?;
-    let other = Name::new(other)?;
+    let name = NameText::new(name)?;
+    let other = NameText::new(other)?;
     if is_word(word, "child") {
         let reservation = reservation_of(first)?;
         let limit = number_of(last)?;

@@ -1,5 +1,6 @@
 //! Running a trace: one line after another, on a tree of one thread.
 ghost use Rattle.std.specs.Prelude.{◌≡◌, OnOk, IfOk, string_bytes};
+ghost use Rattle.mem_num.specs.declared.bounds.TheConstants.{MAX_LIMIT};
 
 mod child;
 mod grant;
@@ -23,7 +24,7 @@ pub(crate) struct Trace<'a> {
 }
 
 impl<'a> Trace<'a> {
-    ghost use Rattle.std.specs.Prelude.{◌<◌, ◌^◌};
+    ghost use Rattle.std.specs.Prelude.{◌<◌, ◌≤◌, ◌^◌};
     ghost use Rattle.script.specs.Grammar.{HasBounds};
     ghost use Rattle.script.specs.Trace.{opened_trace};
     ghost use Rattle.mem_model.specs.DrawnNumbers.{DrawsNumbers};
@@ -31,7 +32,7 @@ impl<'a> Trace<'a> {
 
     /// A trace before its first line.
     pub(crate) fn open(alloc: Global, limit: u64) -> Result<Trace<'a>, AllocError>
-        requires limit { limit < 2 ^ 63 }
+        requires limit { limit ≤ MAX_LIMIT }
         ensures opened { IfOk result (λ trace. IsAt trace (opened_trace limit)) }
     {
         let Ok(tree) = SoloTree::open(alloc, limit) else {

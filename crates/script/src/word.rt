@@ -52,7 +52,7 @@ fn blank(line: &[u8]) -> Option<usize>
 }
 
 /// The number that a word is.
-#[tactic(auto, unfolding(crate::specs::Words::is_number))]
+#[tactic(auto, unfolding(crate::specs::Words::is_numeral))]
 pub(crate) fn number_of(word: &[u8]) -> Option<u64>
     ensures { result ≡ number_of word.now }
 {

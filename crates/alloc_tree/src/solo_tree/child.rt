@@ -1,5 +1,6 @@
 //! Making a child in a tree.
 ghost use Rattle.std.specs.Prelude.{◌≡◌, ◌+◌, ◌-◌, ◌<◌, ◌≤◌, ◌^◌};
+ghost use Rattle.mem_num.specs.declared.bounds.TheConstants.{MAX_LIMIT, MAX_RESERVATION, MOST_NUMBERS};
 ghost use Rattle.mem_model.specs.Child.{child_result};
 ghost use Rattle.mem_model.specs.MeasuredTree.{IsAfterCall};
 ghost use Rattle.alloc_tree.specs.Counting.{count_after};
@@ -17,9 +18,9 @@ impl SoloTree {
         reservation: u64,
         limit: u64,
     ) -> Result<AllocId, ChildRefused>
-        requires reservation { reservation ≤ 2 ^ 40 }
-        requires limit { limit < 2 ^ 63 }
-        requires numbers { self.old.state.next + 1 < 2 ^ 32 }
+        requires reservation { reservation ≤ MAX_RESERVATION }
+        requires limit { limit ≤ MAX_LIMIT }
+        requires numbers { self.old.state.next + 1 < MOST_NUMBERS }
         ensures answer { result ≡ (child_result self.old.state parent reservation limit).answer }
         ensures after { IsAfterCall self.old (child_result self.old.state parent reservation limit) self.new }
 

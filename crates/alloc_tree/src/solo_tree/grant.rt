@@ -1,5 +1,6 @@
 //! Asking a tree for a buffer.
 ghost use Rattle.std.specs.Prelude.{◌≡◌, ◌≢◌, ◌+◌, ◌-◌, ◌<◌, ◌≤◌, ◌^◌, true, Err};
+ghost use Rattle.mem_num.specs.declared.bounds.TheConstants.{LARGEST, MOST_NUMBERS};
 ghost use Rattle.mem_model.specs.Grant.{grant_result, charge_result};
 ghost use Rattle.mem_model.specs.MeasuredTree.{IsAfterCall};
 ghost use Rattle.mem_model.specs.TreeState.{is_open};
@@ -12,7 +13,7 @@ impl SoloTree {
     /// Asks for a buffer of some bytes at an allocator, by the policy of powers of two. After `BaseAllocator.buffer`. The
     /// chunk's ledgers take memory, nothing else does.
     pub fn grant(&mut self, at: AllocId, request: u64) -> Result<Ref, BufferRefused>
-        requires numbers { self.old.state.drawn + 1 < 2 ^ 32 }
+        requires numbers { self.old.state.drawn + 1 < MOST_NUMBERS }
         ensures answer { result ≢ Err BufferRefused.NoMemory → result ≡ (grant_result self.old.state at request).answer }
         ensures after { result ≢ Err BufferRefused.NoMemory → IsAfterCall self.old (grant_result self.old.state at request) self.new }
         ensures no_memory { result ≡ Err BufferRefused.NoMemory → self.new ≡ self.old }
@@ -37,10 +38,10 @@ impl SoloTree {
     // Charges a size, and spends a chunk number also where there is no room for it. The chunk is put in first: it alone can
     // want memory.
     fn charge(&mut self, at: AllocId, size: u64) -> Result<Ref, BufferRefused>
-        requires numbers { self.old.state.drawn + 1 < 2 ^ 32 }
+        requires numbers { self.old.state.drawn + 1 < MOST_NUMBERS }
         requires open { is_open self.old.state at.0 ≡ true }
         requires some_bytes { 1 ≤ size }
-        requires few_bytes { size ≤ 2 ^ 30 }
+        requires few_bytes { size ≤ LARGEST }
         ensures answer { result ≢ Err BufferRefused.NoMemory → result ≡ (charge_result self.old.state (record { at = at; amount = size })).answer }
         ensures after { result ≢ Err BufferRefused.NoMemory → IsAfterCall self.old (charge_result self.old.state (record { at = at; amount = size })) self.new }
         ensures no_memory { result ≡ Err BufferRefused.NoMemory → self.new ≡ self.old }

@@ -1,17 +1,18 @@
-//! The worked examples, run on the tree: the numbers were found by hand; and a tree of the greatest depth beside the plain one.
+//! The worked examples, run on the tree: the numbers were found by hand.
 
-mod mixed;
 mod references;
 
 use super::*;
-use mem_model::PlainTree;
-use mem_num::{BufferRefused, ChildRefused, Full, NotClosed, Ref, Released, SoloRefused};
+use mem_num::{
+    BufferRefused, ChildRefused, Full, MAX_LIMIT, MAX_RESERVATION, NotClosed, Ref, Released,
+    SoloRefused,
+};
 use std::alloc::AllocGlobal;
 use std::process::Abort;
 use std::test::Fail;
 
 /// No limit but that of the type.
-const UNLIMITED: u64 = 9_223_372_036_854_775_807;
+const UNLIMITED: u64 = MAX_LIMIT;
 
 const ROOT: AllocId = AllocId::ROOT;
 
@@ -32,7 +33,7 @@ fn child(
     reservation: u64,
     limit: u64,
 ) -> Result<AllocId, ChildRefused> {
-    assert!(rt; reservation <= 1_099_511_627_776 && limit <= UNLIMITED);
+    assert!(rt; reservation <= MAX_RESERVATION && limit <= UNLIMITED);
     assert!(rt; tree.next() < u32::MAX);
     tree.child(parent, reservation, limit)
 }
@@ -243,62 +244,4 @@ fn an_allocator_is_over_by_its_parent_alone(rt: HostRuntime) -> Result<(), Fail>
     }
     assert_eq!(rt; tree.headroom(below), Ok(-512));
     Ok(())
-}
-
-/// Whether both trees tell the same of every number that an allocator may have.
-fn tell_alike<R: Abort + AllocGlobal>(
-    rt: &R,
-    tree: &SoloTree,
-    plain: &PlainTree,
-) -> Result<(), Fail> {
-    for number in 0..65 {
-        assert_eq!(rt;
-            tree.node(AllocId(number)),
-            plain.node(rt.alloc(), AllocId(number))?
-        );
-    }
-    Ok(())
-}
-
-#[test]
-fn the_deepest_tree_is_as_the_plain_one(rt: HostRuntime) -> Result<(), Fail> {
-    let alloc = rt.alloc();
-    let mut tree = open(&rt, 100_000)?;
-    let mut plain = PlainTree::open(alloc, 100_000)?;
-    // Each allocator reserves at the one above it; from the middle on the reservations grow.
-    for depth in 0..63 {
-        let reservation = 64 + 16 * u64::from(depth % 8);
-        let parent = AllocId(depth);
-        assert!(rt; plain.has_node_number());
-        let made = plain.child(alloc, parent, reservation, 50_000)?;
-        assert_eq!(rt; child(&rt, &mut tree, parent, reservation, 50_000), made);
-    }
-    tell_alike(&rt, &tree, &plain)?;
-    // Buffers from the deepest up; some pass all reservations, and some no limit lets through.
-    for depth in 0..63 {
-        let at = AllocId(63 - depth);
-        let request = if depth % 5 == 0 {
-            40_000
-        } else {
-            50 + 7 * u64::from(depth)
-        };
-        assert!(rt; plain.has_chunk_number());
-        let given = plain.grant(alloc, at, request)?;
-        assert_eq!(rt; grant(&rt, &mut tree, at, request), given);
-        let answer = plain.headroom(alloc, at)?;
-        assert_eq!(rt; tree.headroom(at), answer.map(i128::from));
-    }
-    tell_alike(&rt, &tree, &plain)?;
-    // All is given back and closed, and nothing is left.
-    for chunk in 1..64 {
-        let of = buffer(chunk, AllocId(64 - chunk), 0);
-        let gone = plain.release(alloc, of)?;
-        assert_eq!(rt; tree.release(of), gone);
-    }
-    for depth in 0..64 {
-        let at = AllocId(63 - depth);
-        let closed = plain.close(alloc, at)?;
-        assert_eq!(rt; tree.close(at), closed);
-    }
-    tell_alike(&rt, &tree, &plain)
 }

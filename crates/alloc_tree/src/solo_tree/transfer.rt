@@ -6,7 +6,7 @@ ghost use Rattle.mem_model.specs.Ledgers.{count_of};
 ghost use Rattle.mem_model.specs.MeasuredTree.{IsAfterCall};
 ghost use Rattle.mem_model.specs.References.{HasRoomFor};
 ghost use Rattle.mem_model.specs.Transfer.{transfer_result};
-ghost use Rattle.alloc_tree.specs.Chunks.{chunk_at};
+ghost use Rattle.mem_model.specs.Chunk.{chunk_at};
 ghost use Rattle.alloc_tree.specs.Counting.{count_after};
 ghost use Rattle.alloc_tree.specs.TakeOver.{take_over_result};
 

@@ -1,18 +1,18 @@
 //! Whether a report of allocators and chunks is lawful, part by part.
-ghost use Rattle.std.specs.Prelude.{◌≡◌, ◌+◌, ◌-◌, ◌^◌, ◌<◌, ◌≤◌, ◌↔◌, ◌==◌, ◌&&◌, nat_lt, min, map, All, AllPairs, IsTrue, IfOk, IfSome, IfNone};
+ghost use Rattle.std.specs.Prelude.{◌≡◌, ◌+◌, ◌-◌, ◌^◌, ◌<◌, ◌≤◌, ◌↔◌, ◌==◌, ◌&&◌, nat_lt, min, map, All, IsTrue, IfOk, IfSome, IfNone};
 ghost use Rattle.std.specs.List.{list_all, list_any};
+ghost use Rattle.mem_num.specs.declared.bounds.TheConstants.{MOST_NUMBERS};
 ghost use Rattle.mem_model.specs.Charge.{charged_at};
-ghost use Rattle.mem_model.specs.Chunk.{charges_of};
+ghost use Rattle.mem_model.specs.Chunk.{charges_of, references_of};
 ghost use Rattle.mem_model.specs.Held.{held_of};
 ghost use Rattle.mem_model.specs.LawfulChunk.{IsLawfulChunk};
 ghost use Rattle.mem_model.specs.Ledgers.{AreInOrder, count_of, total_of};
 ghost use Rattle.leak_report.specs.LawfulReport as spec;
 ghost use Rattle.leak_report.specs.ReadReport.{report_with};
-ghost use Rattle.leak_report.specs.ReportText.{references_of};
 
 use super::printed::{PrintedAllocator, PrintedChunk};
 use super::read::is_printed;
-use mem_model::{Charge, Ledger, TreeNode, is_allocator_tree};
+use mem_model::{Charge, Ledger, TreeNode, has_ledger, rise};
 use mem_num::{AllocId, LARGEST, is_name};
 use std::alloc::{AllocError, Global};
 
@@ -69,13 +69,13 @@ fn allocator_fits(printed: &PrintedAllocator) -> bool
 
 // Whether the numbers of chunks fit: they do by their types.
 fn chunks_fit(chunks: &[PrintedChunk]) -> bool
-    ensures { IsTrue result ↔ All (λ chunk. chunk.number < 2 ^ 32) chunks.now }
+    ensures { IsTrue result ↔ All (λ chunk. chunk.number < MOST_NUMBERS) chunks.now }
 {
     chunks.iter().all(|chunk| chunk_fits(chunk))
 }
 
 fn chunk_fits(chunk: &PrintedChunk) -> bool
-    ensures { IsTrue result ↔ (chunk.now.number < 2 ^ 32) }
+    ensures { IsTrue result ↔ (chunk.now.number < MOST_NUMBERS) }
 {
     let _number = chunk.number;
     true
@@ -112,7 +112,7 @@ pub(crate) fn nodes_of(
     alloc: Global,
     allocators: &[PrintedAllocator],
 ) -> Result<Vec<TreeNode>, AllocError>
-    ensures { IfOk result (λ nodes. nodes.items ≡ map spec.node_of allocators.now) }
+    ensures { IfOk result (λ nodes. nodes.items ≡ map spec.printed_node allocators.now) }
 {
     let mut nodes = Vec::new(alloc);
     for printed in allocators {
@@ -180,31 +180,6 @@ fn charged_at(charges: &[Charge], at: AllocId) -> u128
     total
 }
 
-/// Whether the numbers of chunks rise.
-pub(crate) fn rise(chunks: &[PrintedChunk]) -> bool
-    ensures { IsTrue result ↔ AllPairs (λ older newer. older.number < newer.number) chunks.now }
-{
-    for (i, chunk) in chunks.iter().enumerate() {
-        if !is_newer_than(chunk, &chunks[..i]) {
-            return false;
-        }
-    }
-    true
-}
-
-fn is_newer_than(chunk: &PrintedChunk, chunks: &[PrintedChunk]) -> bool
-    ensures { IsTrue result ↔ All (λ older. older.number < chunk.now.number) chunks.now }
-{
-    let number = chunk.number;
-    chunks.iter().all(|older| is_older(older, number))
-}
-
-fn is_older(chunk: &PrintedChunk, number: u32) -> bool
-    ensures { IsTrue result ↔ (chunk.now.number < number) }
-{
-    chunk.number < number
-}
-
 /// Whether each chunk is lawful, where these allocators are open.
 pub(crate) fn are_lawful(allocators: &[PrintedAllocator], chunks: &[PrintedChunk]) -> bool
     ensures { IsTrue result ↔ All (IsLawfulChunk
@@ -254,38 +229,7 @@ fn is_lawful_line(
 fn are_in_order(ledgers: &[Ledger]) -> bool
     ensures { IsTrue result ↔ AreInOrder ledgers.now }
 {
-    ledgers_rise(ledgers) && ledgers.iter().all(|ledger| ledger.count >= 1)
-}
-
-fn ledgers_rise(ledgers: &[Ledger]) -> bool
-    ensures { IsTrue result ↔ AllPairs (λ before after. before.at.0 < after.at.0) ledgers.now }
-{
-    for (i, ledger) in ledgers.iter().enumerate() {
-        if !is_after(ledger, &ledgers[..i]) {
-            return false;
-        }
-    }
-    true
-}
-
-fn is_after(ledger: &Ledger, ledgers: &[Ledger]) -> bool
-    ensures { IsTrue result ↔ All (λ before. before.at.0 < ledger.now.at.0) ledgers.now }
-{
-    ledgers.iter().all(|before| before.at.0 < ledger.at.0)
-}
-
-fn has_ledger(ledgers: &[Ledger], at: AllocId) -> bool
-    ensures { result ≡ nat_lt 0 (count_of ledgers.now at.0) }
-{
-    is_listed(ledgers, at)
-}
-
-fn is_listed(ledgers: &[Ledger], at: AllocId) -> bool
-    ensures { result ≡ list_any (λ ledger. (ledger.at.0 == at.0) && nat_lt 0 ledger.count) ledgers.now }
-{
-    ledgers
-        .iter()
-        .any(|ledger| ledger.at == at && ledger.count > 0)
+    rise(ledgers) && ledgers.iter().all(|ledger| ledger.count >= 1)
 }
 
 fn are_open(allocators: &[PrintedAllocator], ledgers: &[Ledger]) -> bool

@@ -2,7 +2,8 @@
 ghost use Rattle.std.specs.Prelude.{◌≡◌, ◌+◌, ◌^◌, ◌<◌, ◌++◌, length, string_bytes, IfOk, OnOk};
 ghost use Rattle.std.specs.List.{flat_map};
 ghost use Rattle.leak_report.specs.ReadReport.{report_with};
-ghost use Rattle.leak_report.specs.Report.{has_parent, head_of, line_of, lines_text, printed_text, tail_of, tree_line_text};
+ghost use Rattle.leak_report.specs.Report.{has_parent, head_of, tree_line_of, lines_text, printed_text, tail_of, tree_line_text};
+ghost use Rattle.mem_model.specs.Chunk as model;
 ghost use Rattle.leak_report.specs.ReportText as spec;
 
 use super::printed::{PrintedAllocator, PrintedChunk};
@@ -17,7 +18,7 @@ pub(crate) fn text_of(
     chunks: &[PrintedChunk],
     references: u128,
 ) -> Result<Vec<u8>, AllocError>
-    requires { references ≡ spec.references_of chunks.now }
+    requires { references ≡ model.references_of chunks.now }
     ensures { IfOk result (λ text. text.items ≡ printed_text (report_with allocators.now chunks.now)) }
 {
     let mut text = Vec::new(alloc);
@@ -68,7 +69,7 @@ fn add_line(
     printed: &PrintedAllocator,
     depth: usize,
 ) -> Result<(), AllocError>
-    ensures { OnOk result (text.new.items ≡ text.old.items ++ tree_line_text (line_of depth printed.now)) }
+    ensures { OnOk result (text.new.items ≡ text.old.items ++ tree_line_text (tree_line_of depth printed.now)) }
 {
     let indent = "  ".repeat(alloc, depth)?;
     let head = head_text(alloc, printed)?;
@@ -105,7 +106,7 @@ fn chunks_text(
     chunks: &[PrintedChunk],
     references: u128,
 ) -> Result<String, AllocError>
-    requires { references ≡ spec.references_of chunks.now }
+    requires { references ≡ model.references_of chunks.now }
     ensures { IfOk result (λ text. string_bytes text ≡ spec.chunks_text chunks.now) }
 {
     let mut text = String::new(alloc);

@@ -1,6 +1,6 @@
 //! What is read off the lines of a report.
 
-use mem_model::{Ledger, TreeNode};
+use mem_model::{Ledger, Numbered, TreeNode};
 use mem_num::AllocId;
 use std::marker::Model;
 
@@ -47,7 +47,7 @@ impl Model for PrintedAllocator {
 impl PrintedAllocator {
     ghost use Rattle.std.specs.Prelude.{◌≡◌, nat_lt};
     ghost use Rattle.leak_report.specs.ReadReport.{allocator_of_line};
-    ghost use Rattle.leak_report.specs.LawfulReport.{node_of};
+    ghost use Rattle.leak_report.specs.LawfulReport.{printed_node};
 
     /// The allocator of a line, with its parent.
     pub(crate) fn of_line(line: TreeLine, parent: Option<AllocId>) -> PrintedAllocator
@@ -87,7 +87,7 @@ impl PrintedAllocator {
 
     /// It as one of a tree: it is open.
     pub(crate) fn node(&self) -> TreeNode
-        ensures { result ≡ node_of self.now }
+        ensures { result ≡ printed_node self.now }
     {
         TreeNode {
             number: self.number,
@@ -114,4 +114,12 @@ impl Model for PrintedChunk {
     ghost Value = { spec.Chunk };
 
     ghost view = { λ chunk. record { number = chunk.number; size = chunk.size; owner = chunk.owner; ledgers = chunk.ledgers.items } };
+}
+
+impl Numbered for PrintedChunk {
+    ghost number_of = { λ chunk. chunk.number };
+
+    fn number(&self) -> u32 {
+        self.number
+    }
 }

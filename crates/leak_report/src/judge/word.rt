@@ -3,7 +3,7 @@ ghost use Rattle.std.specs.Prelude.{◌≡◌, ◌==◌, not, filter, map, slice
 ghost use Rattle.std.specs.List.{slice_split};
 ghost use Rattle.leak_report.specs.ReadReport as spec;
 
-use mem_num::AllocId;
+use mem_num::{AllocId, is_name_byte};
 use std::alloc::{AllocError, Global};
 
 /// The lines of a text, without those that are empty.
@@ -61,7 +61,7 @@ fn has_bytes(part: &[u8]) -> bool
 fn is_word_byte(byte: u8) -> bool
     ensures { result ≡ spec.is_word_byte byte }
 {
-    byte.is_ascii_alphanumeric() || byte == b'_' || byte == b'-' || byte == b'.' || byte == b'?'
+    is_name_byte(byte) || byte == b'?'
 }
 
 /// The first byte of a line, 0 where it has none.

@@ -1,8 +1,7 @@
 //! Worked examples of a report, whole.
 
 use super::*;
-use mem_num::{AllocId, BufferRefused, ChildRefused, Ref, SoloRefused};
-use std::alloc::AllocGlobal;
+use mem_num::{AllocId, ChildRefused, Ref};
 use std::process::Abort;
 use std::test::Fail;
 
@@ -18,38 +17,34 @@ fn child(rt: &impl Abort, tree: &mut SoloTree, reservation: u64) -> Result<Alloc
     tree.child(ROOT, reservation, 4_096)
 }
 
-fn grant(
-    rt: &impl Abort,
-    tree: &mut SoloTree,
-    at: AllocId,
-    request: u64,
-) -> Result<Ref, BufferRefused> {
-    assert!(rt; tree.drawn() < u32::MAX);
-    tree.grant(at, request)
+/// What an allocator is given; a chunk is named by its number and size.
+#[derive(Clone, Copy)]
+enum Given {
+    Buffer(u64),
+    /// A chunk of another allocator.
+    Retained(u32, u64, AllocId),
+    Transferred(u32, u64, AllocId),
 }
 
-fn retain(
-    rt: &impl Abort,
-    tree: &mut SoloTree,
-    of: Ref,
-    target: AllocId,
-) -> Result<Ref, SoloRefused> {
-    assert!(rt; tree.has_room_for(of));
-    tree.retain(of, target)
-}
+use Given::{Buffer, Retained, Transferred};
 
-fn transfer(
-    rt: &impl Abort,
-    tree: &mut SoloTree,
-    of: Ref,
-    target: AllocId,
-) -> Result<(Ref, bool), SoloRefused> {
-    assert!(rt; tree.has_room_for(of));
-    tree.transfer(of, target)
-}
-
-fn reference(chunk: u32, alloc: AllocId, size: u64) -> Ref {
-    Ref { chunk, alloc, size }
+/// Gives allocators what stands beside them, each in its turn.
+fn give(rt: &impl Abort, tree: &mut SoloTree, given: &[(AllocId, Given)]) {
+    for (at, what) in given {
+        assert!(rt; tree.drawn() < u32::MAX);
+        let is_given = match *what {
+            Buffer(size) => tree.grant(*at, size).is_ok(),
+            Retained(chunk, size, alloc) => {
+                let of = Ref { chunk, alloc, size };
+                tree.has_room_for(of) && tree.retain(of, *at).is_ok()
+            }
+            Transferred(chunk, size, alloc) => {
+                let of = Ref { chunk, alloc, size };
+                tree.has_room_for(of) && tree.transfer(of, *at).is_ok()
+            }
+        };
+        assert!(rt; is_given);
+    }
 }
 
 #[test]
@@ -70,11 +65,10 @@ fn a_moved_chunk_has_ledgers_of_both_allocators(rt: HostRuntime) -> Result<(), F
     let mut tree = SoloTree::open(rt.alloc(), 4_096)?;
     assert_eq!(rt; child(&rt, &mut tree, 0), Ok(A));
     assert_eq!(rt; child(&rt, &mut tree, 0), Ok(B));
-    let given = reference(1, A, 1_024);
-    assert_eq!(rt; grant(&rt, &mut tree, A, 1_024), Ok(given));
-    assert_eq!(rt;
-        transfer(&rt, &mut tree, given, B),
-        Ok((reference(1, B, 1_024), true))
+    give(
+        &rt,
+        &mut tree,
+        &[(A, Buffer(1_024)), (B, Transferred(1, 1_024, A))],
     );
     let names = Names::new(rt.alloc());
     // Both are charged for a moment.
@@ -95,15 +89,19 @@ fn chunks_stand_in_order_with_all_their_references(rt: HostRuntime) -> Result<()
     let mut tree = SoloTree::open(rt.alloc(), 4_096)?;
     assert_eq!(rt; child(&rt, &mut tree, 0), Ok(A));
     assert_eq!(rt; child(&rt, &mut tree, 64), Ok(B));
-    let shared = reference(1, A, 128);
-    let lent = reference(2, ROOT, 1_024);
-    assert_eq!(rt; grant(&rt, &mut tree, A, 100), Ok(shared));
-    assert_eq!(rt; grant(&rt, &mut tree, ROOT, 1_000), Ok(lent));
-    assert_eq!(rt; grant(&rt, &mut tree, B, 16), Ok(reference(3, B, 16)));
-    assert_eq!(rt; retain(&rt, &mut tree, shared, B), Ok(reference(1, B, 128)));
-    assert_eq!(rt; retain(&rt, &mut tree, shared, A), Ok(shared));
-    assert_eq!(rt; retain(&rt, &mut tree, shared, A), Ok(shared));
-    assert_eq!(rt; retain(&rt, &mut tree, lent, A), Ok(reference(2, A, 1_024)));
+    give(
+        &rt,
+        &mut tree,
+        &[
+            (A, Buffer(100)),
+            (ROOT, Buffer(1_000)),
+            (B, Buffer(16)),
+            (B, Retained(1, 128, A)),
+            (A, Retained(1, 128, A)),
+            (A, Retained(1, 128, A)),
+            (A, Retained(2, 1_024, ROOT)),
+        ],
+    );
     assert_eq!(rt;
         report_text(rt.alloc(), &tree, &[])?.as_str(),
         "#0 Allocator(?) 0/1216/1216/4096 (res/actual/peak/limit)

@@ -20,14 +20,11 @@ fn placed(at: u8, parent: u32, held: u64, peak: u64, closed: bool) -> Placed {
     }
 }
 
-/// Names with these bound, besides `ROOT`.
-fn named(rt: &impl AllocGlobal, bindings: &[(&str, u32)]) -> Result<Names, Fail> {
-    let mut names = Names::new(rt.alloc());
-    for (name, number) in bindings {
-        let ready = names.ready(name)?;
-        names.bind(ready, AllocId(*number));
-    }
-    Ok(names)
+/// Binds a name to the allocator of a number.
+fn bind(names: &mut Names, name: &str, number: u32) -> Result<(), Fail> {
+    let ready = names.ready(name)?;
+    names.bind(ready, AllocId(number));
+    Ok(())
 }
 
 #[test]
@@ -55,7 +52,10 @@ fn children_stand_below_their_parent_in_order_of_number(rt: HostRuntime) -> Resu
         placed(4, 3, 7, 8, false),
         placed(5, 1, 1, 2, false),
     ];
-    let names = named(&rt, &[("scan", 1), ("sum", 2), ("part", 3), ("again", 1)])?;
+    let mut names = Names::new(rt.alloc());
+    for (name, number) in [("scan", 1), ("sum", 2), ("part", 3), ("again", 1)] {
+        bind(&mut names, name, number)?;
+    }
     assert_eq!(rt;
         placed_text(rt.alloc(), &nodes, &[names])?.as_str(),
         "#0 Allocator(ROOT) 0/90/99/1000 (res/actual/peak/limit)
@@ -95,8 +95,11 @@ fn the_first_names_that_know_an_allocator_name_it(rt: HostRuntime) -> Result<(),
         placed(1, 0, 0, 0, false),
         placed(2, 0, 0, 0, false),
     ];
-    let own = named(&rt, &[("scan", 1)])?;
-    let shared = named(&rt, &[("query", 1), ("sum", 2)])?;
+    let mut own = Names::new(rt.alloc());
+    bind(&mut own, "scan", 1)?;
+    let mut shared = Names::new(rt.alloc());
+    bind(&mut shared, "query", 1)?;
+    bind(&mut shared, "sum", 2)?;
     assert_eq!(rt;
         placed_text(rt.alloc(), &nodes, &[own, shared])?.as_str(),
         "#0 Allocator(ROOT) 0/0/0/1000 (res/actual/peak/limit)

@@ -1,7 +1,8 @@
 //! Traces with the whole output written out.
 use super::*;
-use mem_model::PlainTree;
-use mem_num::{AllocId, Placed};
+use mem_model::{Charge, TreeNode, fits, held_of, is_allocator_tree};
+use mem_num::AllocId;
+use std::process::Abort;
 use std::test::Fail;
 
 mod references;
@@ -242,21 +243,43 @@ fn a_tree_has_63_children_in_its_life(rt: HostRuntime) -> Result<(), Fail> {
     Ok(())
 }
 
-// The line of an allocator so many levels deep, with the numbers that the definitions give.
-fn node_line(alloc: Global, name: &str, depth: usize, placed: Placed) -> Result<String, Fail> {
-    let spaces = "  ".repeat(alloc, depth)?;
-    let at = placed.at;
-    let (reservation, limit) = (placed.node.reservation, placed.node.limit);
-    let (held, peak) = (placed.node.held, placed.node.peak);
+fn node(number: u32, parent: Option<AllocId>, reservation: u64, limit: u64) -> TreeNode {
+    TreeNode {
+        number: AllocId(number),
+        parent,
+        reservation,
+        limit,
+        closed: false,
+    }
+}
+
+// What the definition of held gives, by a tree and its charges.
+fn held_at(rt: &impl Abort, nodes: &[TreeNode], charges: &[Charge], at: AllocId) -> u64 {
+    assert!(rt; is_allocator_tree(nodes) && fits(nodes, charges));
+    held_of(nodes, charges, at)
+}
+
+// The line of an allocator as many levels deep as its number says, which holds its peak.
+fn level_line(
+    alloc: Global,
+    number: u32,
+    reservation: u64,
+    held: u64,
+    limit: u64,
+) -> Result<String, Fail> {
+    let spaces = "  ".repeat(alloc, number as usize)?;
     Ok(format!(in alloc;
-        "\n{spaces}{at} Allocator({name}) {reservation}/{held}/{peak}/{limit} (res/actual/peak/limit)\n"
+        "\n{spaces}#{number} Allocator(level-{number}) {reservation}/{held}/{held}/{limit} (res/actual/peak/limit)\n"
     )?)
 }
 
 #[test]
 fn a_chain_of_63_allocators_holds_what_the_definitions_give(rt: HostRuntime) -> Result<(), Fail> {
     const LIMIT: u64 = 1_000_000;
-    let mut plain = PlainTree::open(rt.alloc(), LIMIT)?;
+    // The chain by the definitions. Nothing is given back or refused, so that each peak is what is held.
+    let mut nodes = Vec::new(rt.alloc());
+    let mut charges = Vec::new(rt.alloc());
+    nodes.push(node(0, None, 0, LIMIT))?;
     let mut opens = String::new(rt.alloc());
     let mut closes = String::new(rt.alloc());
     let mut parent = String::from_str(rt.alloc(), "ROOT")?;
@@ -264,13 +287,11 @@ fn a_chain_of_63_allocators_holds_what_the_definitions_give(rt: HostRuntime) -> 
         // The reservations grow and shrink, so that at some levels one below covers more.
         let number: u32 = i;
         let reservation = u64::from(number * 37 % 64) * 64;
-        let at = AllocId(number - 1);
-        assert!(rt; plain.has_node_number());
-        let made = plain.child(rt.alloc(), at, reservation, LIMIT)?;
-        assert_eq!(rt; made, Ok(AllocId(number)));
-        assert!(rt; plain.has_chunk_number());
-        let granted = plain.grant(rt.alloc(), AllocId(number), 512)?;
-        assert!(rt; granted.is_ok());
+        nodes.push(node(number, Some(AllocId(number - 1)), reservation, LIMIT))?;
+        charges.push(Charge {
+            at: AllocId(number),
+            amount: 512,
+        })?;
         let name = format!(in rt.alloc(); "level-{number}")?;
         write!(
             opens,
@@ -283,13 +304,17 @@ fn a_chain_of_63_allocators_holds_what_the_definitions_give(rt: HostRuntime) -> 
     }
     let mut script = format!(in rt.alloc(); "root {LIMIT}\n{opens}tree\n")?;
     let text = printed(rt.alloc(), script.as_str())?;
+    assert!(rt; nodes.len() == 64);
     for depth in 1..8 {
         let number: u32 = depth * 8;
-        let placed = plain
-            .node(rt.alloc(), AllocId(number))?
-            .expect(&rt, "a node");
-        let name = format!(in rt.alloc(); "level-{number}")?;
-        let line = node_line(rt.alloc(), name.as_str(), number as usize, placed)?;
+        let held = held_at(&rt, &nodes, &charges, AllocId(number));
+        let line = level_line(
+            rt.alloc(),
+            number,
+            nodes[number as usize].reservation,
+            held,
+            LIMIT,
+        )?;
         assert!(rt; text.contains(line.as_str()), "{line}");
     }
 

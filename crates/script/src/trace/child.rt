@@ -1,29 +1,29 @@
 //! Making a child.
 ghost use Rattle.std.specs.Prelude.{◌≡◌, ◌<◌, ◌≤◌, ◌^◌, OnOk, string_bytes};
+ghost use Rattle.mem_num.specs.declared.bounds.TheConstants.{MAX_LIMIT, MAX_RESERVATION};
 ghost use Rattle.script.specs.declared.line.Line.TheVariants as line;
 ghost use Rattle.script.specs.Trace.{names_after};
 ghost use Rattle.mem_model.specs.DrawnNumbers.{DrawsNumbers};
 ghost use Rattle.script.specs.Shown.{PrintsLine, HasNumbers};
 
 use crate::answer::{write_child, write_taken, write_unknown};
-use crate::name::Name;
 use crate::trace::Trace;
 use alloc_tree::Names;
-use mem_num::{AllocId, ChildRefused};
+use mem_num::{AllocId, ChildRefused, NameText};
 use std::alloc::AllocError;
 
 impl<'a> Trace<'a> {
     /// Makes a child below the allocator that `parent` names. Takes memory for the name alone.
     pub(crate) fn child(
         &mut self,
-        name: &Name,
-        parent: &Name,
+        name: &NameText,
+        parent: &NameText,
         reservation: u64,
         limit: u64,
         text: &mut String,
     ) -> Result<(), AllocError>
-        requires reservation { reservation ≤ 2 ^ 40 }
-        requires limit { limit < 2 ^ 63 }
+        requires reservation { reservation ≤ MAX_RESERVATION }
+        requires limit { limit ≤ MAX_LIMIT }
         requires numbers { HasNumbers self.old.tree.state 1 }
         ensures prints { OnOk result
             (PrintsLine self.old self.new (string_bytes text.old) (string_bytes text.new)
@@ -45,7 +45,7 @@ impl<'a> Trace<'a> {
 // Binds the name of a child that was made. It is a name, and free, so that only memory could be wanting.
 fn bind(
     names: &mut Names,
-    name: &Name,
+    name: &NameText,
     answer: Result<AllocId, ChildRefused>,
 ) -> Result<(), AllocError>
     ensures { OnOk result (names.new.bindings ≡ names_after names.old.bindings name.now answer) }
@@ -53,7 +53,7 @@ fn bind(
     let Ok(number) = answer else {
         return Ok(());
     };
-    let Ok(ready) = names.ready(name.as_str()) else {
+    let Ok(ready) = names.ready_name(name) else {
         return Err(AllocError);
     };
     names.bind(ready, number);

@@ -8,17 +8,16 @@ ghost use Rattle.script.specs.Shown.{PrintsLine, HasNumbers};
 
 use crate::answer::{write_buffer, write_taken, write_unknown};
 use crate::buffers::Buffers;
-use crate::name::Name;
 use crate::trace::Trace;
-use mem_num::{BufferRefused, Ref};
+use mem_num::{BufferRefused, NameText, Ref};
 use std::alloc::AllocError;
 
 impl<'a> Trace<'a> {
     /// Asks for a buffer at the allocator that `at` names.
     pub(crate) fn buffer(
         &mut self,
-        name: &Name<'a>,
-        at: &Name,
+        name: &NameText<'a>,
+        at: &NameText,
         size: u64,
         text: &mut String,
     ) -> Result<(), AllocError>
@@ -43,7 +42,7 @@ impl<'a> Trace<'a> {
 // Binds the name of a buffer that was given.
 fn bind<'a>(
     buffers: &mut Buffers<'a>,
-    name: &Name<'a>,
+    name: &NameText<'a>,
     answer: Result<Ref, BufferRefused>,
 ) -> Result<(), AllocError>
     requires free { is_some (buffer_of buffers.old.bound name.now) ≡ false }

@@ -5,15 +5,15 @@ ghost use Rattle.mem_model.specs.DrawnNumbers.{DrawsNumbers};
 ghost use Rattle.script.specs.Shown.{PrintsLine};
 
 use crate::answer::{write_close, write_headroom, write_unknown};
-use crate::name::Name;
 use crate::trace::Trace;
 use leak_report::{report_text, tree_text};
+use mem_num::NameText;
 use std::alloc::{AllocError, Global};
 use std::slice;
 
 impl<'a> Trace<'a> {
     /// Closes the allocator that `at` names.
-    pub(crate) fn close(&mut self, at: &Name, text: &mut String) -> Result<(), AllocError>
+    pub(crate) fn close(&mut self, at: &NameText, text: &mut String) -> Result<(), AllocError>
         ensures prints { OnOk result
             (PrintsLine self.old self.new (string_bytes text.old) (string_bytes text.new) (line.Close at.now)) }
         ensures draws { OnOk result (DrawsNumbers self.old.tree.state self.new.tree.state 1) }
@@ -26,7 +26,7 @@ impl<'a> Trace<'a> {
     }
 
     /// Shows the headroom of the allocator that `at` names.
-    pub(crate) fn headroom(&self, at: &Name, text: &mut String) -> Result<(), AllocError>
+    pub(crate) fn headroom(&self, at: &NameText, text: &mut String) -> Result<(), AllocError>
         ensures { OnOk result
             (PrintsLine self.now self.now (string_bytes text.old) (string_bytes text.new) (line.Headroom at.now)) }
     {

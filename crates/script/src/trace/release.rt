@@ -7,12 +7,16 @@ ghost use Rattle.script.specs.Shown.{Prints, PrintsLine};
 
 use crate::answer::{write_empty, write_given_back, write_release, write_unknown};
 use crate::buffer::{Buffer, GivenRef};
-use crate::name::Name;
 use crate::trace::Trace;
+use mem_num::NameText;
 use std::alloc::AllocError;
 
 impl<'a> Trace<'a> {
-    pub(crate) fn release(&mut self, name: &Name<'a>, text: &mut String) -> Result<(), AllocError>
+    pub(crate) fn release(
+        &mut self,
+        name: &NameText<'a>,
+        text: &mut String,
+    ) -> Result<(), AllocError>
         ensures prints { OnOk result
             (PrintsLine self.old self.new (string_bytes text.old) (string_bytes text.new) (line.Release name.now)) }
         ensures draws { OnOk result (DrawsNumbers self.old.tree.state self.new.tree.state 1) }
@@ -26,7 +30,7 @@ impl<'a> Trace<'a> {
     // Gives back the reference of the buffer that the name is bound to. Whatever the tree answers, it was given back then.
     fn release_buffer(
         &mut self,
-        name: &Name<'a>,
+        name: &NameText<'a>,
         source: Buffer,
         given: GivenRef,
         text: &mut String,

@@ -10,17 +10,16 @@ ghost use Rattle.script.specs.Shown.{Prints, PrintsLine, HasNumbers};
 use crate::answer::{write_empty, write_given_back, write_retain, write_taken, write_unknown};
 use crate::buffer::{Buffer, GivenRef};
 use crate::buffers::Buffers;
-use crate::name::Name;
 use crate::trace::Trace;
-use mem_num::{AllocId, Ref, SoloRefused};
+use mem_num::{AllocId, NameText, Ref, SoloRefused};
 use std::alloc::AllocError;
 
 impl<'a> Trace<'a> {
     pub(crate) fn retain(
         &mut self,
-        name: &Name<'a>,
-        source: &Name<'a>,
-        at: &Name,
+        name: &NameText<'a>,
+        source: &NameText<'a>,
+        at: &NameText,
         text: &mut String,
     ) -> Result<(), AllocError>
         requires numbers { HasNumbers self.old.tree.state 1 }
@@ -43,7 +42,7 @@ impl<'a> Trace<'a> {
     // Retains the buffer that the source is bound to, for a name that is free.
     fn retain_buffer(
         &mut self,
-        name: &Name<'a>,
+        name: &NameText<'a>,
         source: Buffer,
         given: GivenRef,
         at: AllocId,
@@ -72,7 +71,7 @@ impl<'a> Trace<'a> {
 // Binds the name of a reference that was given.
 fn bind<'a>(
     buffers: &mut Buffers<'a>,
-    name: &Name<'a>,
+    name: &NameText<'a>,
     source: Buffer,
     answer: Result<Ref, SoloRefused>,
 ) -> Result<(), AllocError>

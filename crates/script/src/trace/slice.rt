@@ -1,5 +1,6 @@
 //! Naming a part of a buffer.
-ghost use Rattle.std.specs.Prelude.{◌≡◌, ◌<◌, ◌^◌, false, OnOk, is_some, string_bytes};
+ghost use Rattle.std.specs.Prelude.{◌≡◌, ◌≤◌, false, OnOk, is_some, string_bytes};
+ghost use Rattle.mem_num.specs.declared.bounds.TheConstants.{MAX_LIMIT};
 ghost use Rattle.script.specs.declared.line.Line.TheVariants as line;
 ghost use Rattle.script.specs.Bound.{IsWithin};
 ghost use Rattle.script.specs.Buffers.{buffer_of};
@@ -9,21 +10,21 @@ ghost use Rattle.script.specs.Shown.{Prints, PrintsLine};
 
 use crate::answer::{write_given_back, write_outside, write_slice, write_taken, write_unknown};
 use crate::buffer::{Buffer, GivenRef};
-use crate::name::Name;
 use crate::trace::Trace;
+use mem_num::NameText;
 use std::alloc::AllocError;
 
 impl<'a> Trace<'a> {
     pub(crate) fn slice(
         &mut self,
-        name: &Name<'a>,
-        source: &Name<'a>,
+        name: &NameText<'a>,
+        source: &NameText<'a>,
         start: u64,
         len: u64,
         text: &mut String,
     ) -> Result<(), AllocError>
-        requires start { start < 2 ^ 63 }
-        requires len { len < 2 ^ 63 }
+        requires start { start ≤ MAX_LIMIT }
+        requires len { len ≤ MAX_LIMIT }
         ensures prints { OnOk result
             (PrintsLine self.old self.new (string_bytes text.old) (string_bytes text.new) (line.Slice name.now source.now start len)) }
         ensures draws { OnOk result (DrawsNumbers self.old.tree.state self.new.tree.state 1) }
@@ -40,15 +41,15 @@ impl<'a> Trace<'a> {
     // Names a part of the buffer that the source is bound to. It shares the reference.
     fn slice_buffer(
         &mut self,
-        name: &Name<'a>,
+        name: &NameText<'a>,
         source: Buffer,
         given: GivenRef,
         start: u64,
         len: u64,
         text: &mut String,
     ) -> Result<(), AllocError>
-        requires start { start < 2 ^ 63 }
-        requires len { len < 2 ^ 63 }
+        requires start { start ≤ MAX_LIMIT }
+        requires len { len ≤ MAX_LIMIT }
         requires free { is_some (buffer_of self.old.buffers.bound name.now) ≡ false }
         requires fits { IsWithin source }
         ensures prints { OnOk result (Prints self.old self.new (string_bytes text.old) (string_bytes text.new)

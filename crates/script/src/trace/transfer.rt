@@ -12,17 +12,16 @@ use crate::answer::{
 };
 use crate::buffer::{Buffer, GivenRef};
 use crate::buffers::Buffers;
-use crate::name::Name;
 use crate::trace::Trace;
-use mem_num::{AllocId, Ref, SoloRefused};
+use mem_num::{AllocId, NameText, Ref, SoloRefused};
 use std::alloc::AllocError;
 
 impl<'a> Trace<'a> {
     pub(crate) fn transfer(
         &mut self,
-        name: &Name<'a>,
-        source: &Name<'a>,
-        at: &Name,
+        name: &NameText<'a>,
+        source: &NameText<'a>,
+        at: &NameText,
         text: &mut String,
     ) -> Result<(), AllocError>
         requires numbers { HasNumbers self.old.tree.state 1 }
@@ -45,7 +44,7 @@ impl<'a> Trace<'a> {
     // Transfers the buffer that the source is bound to, for a name that is free.
     fn transfer_buffer(
         &mut self,
-        name: &Name<'a>,
+        name: &NameText<'a>,
         source: Buffer,
         given: GivenRef,
         at: AllocId,
@@ -74,7 +73,7 @@ impl<'a> Trace<'a> {
 // Binds the name of a reference that was given.
 fn bind<'a>(
     buffers: &mut Buffers<'a>,
-    name: &Name<'a>,
+    name: &NameText<'a>,
     source: Buffer,
     answer: Result<(Ref, bool), SoloRefused>,
 ) -> Result<(), AllocError>

@@ -7,11 +7,17 @@ lower-requires-clause-open c = stays_open c.args.rows.now c.force-fits.new.rows 
 
 pub lower-requires-clause-covered : goal.lower-requires-clause-covered
 lower-requires-clause-covered c =
-    let covered = c.requires.covered in
-    (covered.1, exceeds_by_moved covered.0 covered.1 c.args.from c.args.to c.args.amount c.args.rows.now c.force-fits.new.rows c.force-fits.result c.force-fits.ensures.kept covered.3 (c.force-fits.ensures.forced covered.0 covered.2))
+    let covered = c.requires.covered in (
+      covered.1,
+      exceeds_by_moved covered.0 covered.1 c.args.from c.args.to c.args.amount c.args.rows.now c.force-fits.new.rows
+          c.force-fits.result c.force-fits.ensures.kept covered.3 (c.force-fits.ensures.forced covered.0 covered.2),
+    )
 
 pub returns-clause-moved : goal.returns-clause-moved
 returns-clause-moved c = λ before after balance moves.
     let forces = c.force-fits.ensures.forced before balance in
-    moved before after (record { at = c.args.to; amount = c.args.amount }) c.args.rows.now c.force-fits.new.rows c.lower.new.rows c.force-fits.result c.force-fits.ensures.kept forces c.lower.ensures.peaks
-    (c.lower.ensures.released after (exceeds_by_moved before after c.args.from c.args.to c.args.amount c.args.rows.now c.force-fits.new.rows c.force-fits.result c.force-fits.ensures.kept moves forces))
+    moved before after (record { at = c.args.to; amount = c.args.amount }) c.args.rows.now c.force-fits.new.rows c.lower.new.rows
+    c.force-fits.result c.force-fits.ensures.kept forces c.lower.ensures.peaks
+    (c.lower.ensures.released after
+    (exceeds_by_moved before after c.args.from c.args.to c.args.amount c.args.rows.now c.force-fits.new.rows c.force-fits.result
+    c.force-fits.ensures.kept moves forces))

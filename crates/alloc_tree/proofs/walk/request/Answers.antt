@@ -6,5 +6,6 @@ lower-requires-clause-open c = stays_open c.args.rows.now c.raise.new.rows c.arg
 
 pub returns-in-Some-clause-answers : goal.returns-in-Some-clause-answers
 returns-in-Some-clause-answers c = λ charges balance.
-    undone charges (record { at = c.args.at; amount = c.args.amount }) c.args.rows.now c.raise.new.rows c.lower.new.rows c.raise.result c.in-Some.full c.raise.ensures.kept (c.raise.ensures.charged charges balance) c.in-Some.is
+    undone charges (record { at = c.args.at; amount = c.args.amount }) c.args.rows.now c.raise.new.rows c.lower.new.rows c.raise.result
+    c.in-Some.full c.raise.ensures.kept (c.raise.ensures.charged charges balance) c.in-Some.is
     c.lower.ensures.peaks (c.lower.ensures.released charges)

@@ -1,9 +1,9 @@
 -- The text is compared with that of the report that it was read as, once this is lawful.
-use Rattle.std.proofs.Common.{◌≡◌, ◌∙◌, ap, sym, subst, arith}
+use Rattle.std.proofs.Common.{◌∙◌, ap, sym, subst, arith}
 use Rattle.leak_report.specs.LawfulReport.{IsLawful}
 use Rattle.leak_report.specs.ReadReport.{report_with}
 use Rattle.leak_report.specs.Report.{printed_text}
-use Rattle.leak_report.specs.ReportText.{references_of}
+use Rattle.mem_model.specs.Chunk.{references_of}
 use Rattle.leak_report.proofs.ReadReportLemmas.{read-lawful}
 use Rattle.leak_report.proofs.judge.judged.Goals as goal
 

@@ -5,11 +5,16 @@ use Rattle.alloc_tree.proofs.chunks.Chunks.push.Goals as goal
 
 pub invariant_of-self-2 : goal.invariant_of-self-2
 invariant_of-self-2 c =
-    let below = subst (λ (chunks : List Chunk). All (λ chunk. chunk.number < c.args.number) chunks) (sym c.self.view_is) c.requires.last in
-    pushed_in_order c.self.inside.by_number.entries _ c.args.number c.in_ok-ledgers.ledgers c.self.invariant below (rw c.in-Ok.is at c.insert.ensures.entries)
+    let below = subst (λ (chunks : List Chunk). All (λ chunk. chunk.number < c.args.number) chunks)
+    (sym c.self.view_is) c.requires.last in
+    pushed_in_order c.self.inside.by_number.entries _ c.args.number c.in_ok-ledgers.ledgers below
+    (rw c.in-Ok.is at c.insert.ensures.entries) c.self.invariant
 
 pub returns-clause-pushed : goal.returns-clause-pushed
 returns-clause-pushed c =
-    let below = subst (λ (chunks : List Chunk). All (λ chunk. chunk.number < c.args.number) chunks) (sym c.self.view_is) c.requires.last in
-    pushed c.self.inside.by_number.entries _ c.args.number c.args.size c.args.owner c.in_ok-ledgers.ledgers below (rw c.in-Ok.is at c.insert.ensures.entries) c.in_ok-ledgers.ensures.size c.in_ok-ledgers.ensures.owner c.in_ok-ledgers.ensures.ledgers
+    let below = subst (λ (chunks : List Chunk). All (λ chunk. chunk.number < c.args.number) chunks)
+    (sym c.self.view_is) c.requires.last in
+    let made = c.in_ok-ledgers.ensures in
+    pushed c.self.inside.by_number.entries _ c.args.number c.in_ok-ledgers.ledgers below
+    (rw c.in-Ok.is at c.insert.ensures.entries) c.args.size c.args.owner made.size made.owner made.ledgers
     ∙ ap (λ (chunks : List Chunk). chunks ++ new_chunk c.args.number c.args.size c.args.owner ∷ []) c.self.view_is

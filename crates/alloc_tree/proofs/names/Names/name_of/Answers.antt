@@ -16,7 +16,8 @@ returns-in_err-name-clause-named c = rw c.from_residual.ensures (found_by _ _ c.
 pub returns-clause-value : goal.returns-clause-value
 returns-clause-value c =
     rw (← c.self.view_is) (ap Some c.as_str.ensures.value
-    ∙ name_of-entries c.self.inside.bound.entries c.args.at.0 (Some (c.in_ok-name.name.now, c.in_ok-name.field-0-1.now)) c.if-at-eq0.false c.in_ok-name.ensures)
+    ∙ name_of-entries c.self.inside.bound.entries c.args.at.0 (Some (c.in_ok-name.name.now, c.in_ok-name.field-0-1.now)) c.if-at-eq0.false
+    c.in_ok-name.ensures)
 
 pub returns-clause-named : goal.returns-clause-named
 returns-clause-named c = found_by _ _ c.args.self.now.bindings (Some c.as_str.result.now) (returns-clause-value c)

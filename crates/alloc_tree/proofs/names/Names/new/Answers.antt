@@ -1,5 +1,5 @@
 -- The root's name is a name.
-use Rattle.std.proofs.Common.{◌∷◌, [], ◌≡◌, sym, ap, subst}
+use Rattle.std.proofs.Common.{sym, subst}
 use Rattle.alloc_tree.specs.Names.{bindings_of, AreLawful}
 use Rattle.alloc_tree.proofs.NamesLemmas.{AreLawful-root}
 use Rattle.alloc_tree.proofs.names.Names.new.Goals as goal

@@ -1,5 +1,5 @@
 use Rattle.std.proofs.Common.{◌≡◌, take}
-use Rattle.leak_report.specs.ReportText.{references_of}
+use Rattle.mem_model.specs.Chunk.{references_of}
 use Rattle.leak_report.proofs.judge.check.references_of.Given as goal
 
 -- the references to the chunks so far

@@ -1,5 +1,5 @@
 -- One word alone is no ledger.
-use Rattle.std.proofs.Common.{◌≡◌, ◌++◌, ◌∙◌, sym, ap, map, arith, length}
+use Rattle.std.proofs.Common.{◌++◌, ◌∙◌, sym, ap, map, arith}
 use Rattle.std.proofs.lemmas.List.{append-nil, length-map}
 use Rattle.leak_report.proofs.LineLemmas.{ledgers_with-short}
 use Rattle.leak_report.proofs.judge.read.ledgers_with.Goals as goal

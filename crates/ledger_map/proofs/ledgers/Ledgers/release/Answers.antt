@@ -1,6 +1,6 @@
 -- The cases stand in `ReleaseLemmas`; here they meet the fields.
 use Rattle.std.proofs.Common.{sym, ◌∙◌, arith, refl}
-use Rattle.ledger_map.specs.Fields.{state_of}
+use Rattle.ledger_map.specs.Fields.{ledger_state}
 use Rattle.mem_model.proofs.LedgerCountLemmas.{count_of-with_count}
 use Rattle.ledger_map.proofs.ReleaseLemmas.{IsReleased, released, TakesOne-from}
 use Rattle.ledger_map.proofs.ledgers.Ledgers.release.Goals as goal
@@ -11,7 +11,7 @@ of_release-after-requires c =
 
 -- the state that is left is lawful, and the answer follows the rule
 shown : (c : goal.After-self-1)
-    → IsReleased (state_of c.self.inside) (state_of (record { size = c.self.inside.size; owner = c.owner_from-self-inside.result; ledgers = c.take_one.new.entries })) c.args.at.0 c.of_release-after.result
+    → IsReleased (ledger_state c.self.inside) (ledger_state (record { size = c.self.inside.size; owner = c.owner_from-self-inside.result; ledgers = c.take_one.new.entries })) c.args.at.0 c.of_release-after.result
 shown c =
     let answer = rw c.as_slice.ensures at c.of_release-after.ensures in
     released _ c.take_one.new.entries.items c.args.at.0 _ c.of_release-after.result c.owner_from-self-inside.result c.self.invariant.lawful c.in-Some.ensures.left.0 c.in-Some.ensures.items answer c.owner_from-self-inside.ensures

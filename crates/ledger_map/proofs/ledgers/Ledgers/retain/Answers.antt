@@ -1,7 +1,7 @@
 -- The owner keeps its count, and one reference more is few.
 use Rattle.std.proofs.Common.{arith, refl}
 use Rattle.mem_model.proofs.LedgerCountLemmas.{count_of-le-total_of}
-use Rattle.ledger_map.proofs.RetainLemmas.{IsLawful-retained, AddsOne-from}
+use Rattle.ledger_map.proofs.RetainLemmas.{AreLawfulLedgers-retained, AddsOne-from}
 use Rattle.ledger_map.proofs.ledgers.Ledgers.retain.Goals as goal
 
 pub add_one-requires-clause-fits : goal.add_one-requires-clause-fits
@@ -12,7 +12,7 @@ pub invariant_of-self : goal.invariant_of-self
 invariant_of-self c =
     let asked = rw (← c.self.view_is) at c.requires in
     record {
-      lawful = IsLawful-retained _ c.add_one.new.entries.items c.args.at.0 _ c.self.invariant.lawful asked.live asked.few_references c.add_one.ensures.items;
+      lawful = AreLawfulLedgers-retained _ c.add_one.new.entries.items c.args.at.0 _ c.self.invariant.lawful asked.live asked.few_references c.add_one.ensures.items;
       within = c.add_one.ensures.within;
     }
 
@@ -24,4 +24,4 @@ returns-clause-added c =
 pub returns-clause-lawful : goal.returns-clause-lawful
 returns-clause-lawful c =
     let asked = rw (← c.self.view_is) at c.requires in
-    IsLawful-retained _ c.add_one.new.entries.items c.args.at.0 _ c.self.invariant.lawful asked.live asked.few_references c.add_one.ensures.items
+    AreLawfulLedgers-retained _ c.add_one.new.entries.items c.args.at.0 _ c.self.invariant.lawful asked.live asked.few_references c.add_one.ensures.items

@@ -1,8 +1,0 @@
-use Rattle.std.proofs.Common.{◌∙◌}
-use Rattle.mem_model.specs.PlainFields.{sampled_tree}
-use Rattle.mem_model.proofs.PlainLemmas.{sound-fits_at}
-use Rattle.mem_model.proofs.plain_tree.PlainTree.sample.Goals as goal
-
-pub request_sample-requires-clause-fits : goal.request_sample-requires-clause-fits
-request_sample-requires-clause-fits c =
-    sound-fits_at (sampled_tree c.self.inside) c.args.self.now _ _ c.args.request c.self.invariant c.self.view_is c.requires.small c.deref.ensures.value (c.deref-2.ensures.value ∙ c.in_ok-charges.ensures)

@@ -1,0 +1,8 @@
+use Rattle.std.proofs.Common.{◌∙◌}
+use Rattle.plain_tree.specs.Fields.{sampled_tree}
+use Rattle.plain_tree.proofs.SoundLemmas.{sound-fits_at}
+use Rattle.plain_tree.proofs.plain_tree.PlainTree.refusing.Goals as goal
+
+pub refusing_level-requires-clause-fits : goal.refusing_level-requires-clause-fits
+refusing_level-requires-clause-fits c =
+    sound-fits_at (sampled_tree c.self.inside) c.args.self.now _ _ c.args.request c.self.invariant c.self.view_is c.requires.small c.deref.ensures.value (c.deref-2.ensures.value ∙ c.in_ok-charges.ensures)

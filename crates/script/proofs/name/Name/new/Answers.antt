@@ -1,7 +1,0 @@
--- A name is text.
-use Rattle.std.proofs.Common.{sym}
-use Rattle.script.proofs.WordLemmas.{name_utf8}
-use Rattle.script.proofs.name.Name.new.Goals as goal
-
-pub returns-in-Err : goal.returns-in-Err
-returns-in-Err c = absurd (c.in-Err.ensures.cases.0 (name_utf8 _ (sym c.if-not-is_name.ensures)))
