@@ -1,64 +1,66 @@
 -- No level holds more than all sizes and all reservations together.
 use Rattle.std.proofs.Common.{zero, suc, ◌≡◌, ℕ, ◌+◌, ◌<◌, ◌≤◌, ◌≢◌, max, Bool, true, false, cond, ◌&&◌, is_none, List, ◌++◌, map, get_or, length, ◌==◌, eq-eqb, ne_eqb, eqb-true, Option, Some, None, sum_by, arith, refl, sym, ap, ◌∙◌, subst, ⊎_elim}
+use Rattle.std.proofs.lemmas.Option.{same_Some}
 use Rattle.std.proofs.lemmas.Bool.{true≢false, cases_eq, cases_Bool, and_parts}
 use Rattle.std.proofs.lemmas.List.Elements.{All-from_get_or, All-weaker}
 use Rattle.std.proofs.lemmas.List.Sums.{sum-map, sum_by-append, sum_by-le-sum_by}
 use Rattle.acct_core.specs.declared.shape.Shape.{Shape}
 use Rattle.acct_core.specs.declared.row.Row.{Row}
-use Rattle.acct_core.specs.declared.phase.Phase.{Phase}
-use Rattle.acct_core.specs.declared.phase.Phase.TheVariants.{Free, In, Up, Held, Failed, Down, Bounced}
-use Rattle.acct_core.specs.declared.claim.Claim.{Claim}
-use Rattle.acct_core.specs.declared.account.Account.{Account}
+use Rattle.acct_core.specs.Phases.{Phase, charged, pending_subtraction, size_of}
+use Rattle.acct_core.specs.Phases.Phase.{Free, In, Up, Held, Failed, Down, Bounced}
+use Rattle.acct_core.specs.Claims.{Claim, Account, own_charge, no_claim}
 use Rattle.acct_core.specs.Rows.{blank, row, shapes, is_at}
-use Rattle.acct_core.specs.Phases.{charged, pending_subtraction, size_of}
 use Rattle.mem_model.specs.WorstCase.{worst_case}
 use Rattle.acct_core.specs.Bounds.{sizes_of, open_reservation, reservations_of}
-use Rattle.acct_core.specs.Claims.{own_charge, no_claim}
 use Rattle.acct_core.specs.Balance.{child_count}
 use Rattle.acct_core.specs.NodeTree.{IsNodeTree, IsOpen}
 use Rattle.acct_core.proofs.FitsLemmas.{ClaimFits, HeldLaw}
-use Rattle.acct_core.proofs.SumLemmas.{sum_to, sum_to-le, sum_to-none, sum_to-add, sum_to-same, sum_to-one, sum_by-map, sum_by-sum_to, sum_by-add, exchange, sum_by-le_each, sum_by-none}
-use Rattle.acct_core.proofs.LineLemmas.{on_line, on_self, line_step, on_above, by_child}
+use Rattle.acct_core.proofs.SumLemmas.{sum_to, sum_to-le, sum_to-none, sum_to-add, sum_to-same, sum_to-one, sum_by-map, sum_by-sum_to, sum_by-add, exchange, sum_by-le_each, sum_by-zeros, zero_cond}
+use Rattle.acct_core.proofs.LineLemmas.{on_line, on_self, line_step, on_above, by_child, at_some, made_in}
 use Rattle.acct_core.proofs.CoverLemmas.{of_child}
-use Rattle.acct_core.proofs.LineLemmas.{at_some, made_in}
 
 module _ (shape : ℕ → Shape) (t : IsNodeTree shape) where
   -- numbers on the way to the root are at most the first
   on_le : (f k n : ℕ) → on_line shape f k n ≡ true → n ≤ k
   on_le zero k n h = let e = eqb-true k n h in omega arith
-  on_le (suc f) k n h = ⊎_elim (λ e. omega arith) (λ ne. let s = line_step shape t f k n ne h in let a = on_le f s.0 n s.2 in let b = t.smaller k s.0 s.1 in omega arith) (cases_eq k n)
+  on_le (suc f) k n h = ⊎_elim
+      (λ e. omega arith)
+      (λ ne. let s = line_step shape t f k n ne h in let a = on_le f s.0 n s.2 in let b = t.smaller k s.0 s.1 in omega arith)
+      (cases_eq k n)
 
   -- of the children of a node one at most is on the way
-  one_child : (f k a b n : ℕ) → on_line shape f k a ≡ true → on_line shape f k b ≡ true → (shape a).parent ≡ Some n → (shape b).parent ≡ Some n → a ≡ b
+  one_child : (f k a b n : ℕ) → on_line shape f k a ≡ true → on_line shape f k b ≡ true → (shape a).parent ≡ Some n →
+      (shape b).parent ≡ Some n → a ≡ b
   one_child zero k a b n h g p q = sym (eqb-true k a h) ∙ eqb-true k b g
   one_child (suc f) k a b n h g p q = ⊎_elim
       (λ e. ⊎_elim (λ e'. sym e ∙ e') (λ ne. absurd (crossed f k a b n e ne g p q)) (cases_eq k b))
       (λ ne. ⊎_elim
       (λ e'. absurd (crossed f k b a n e' ne h q p))
       (λ ne'. let s = line_step shape t f k a ne h in let u = line_step shape t f k b ne' g in
-      one_child f s.0 a b n s.2 (subst (λ (x : ℕ). on_line shape f x b ≡ true) (same u.0 s.0 (sym u.1 ∙ s.1)) u.2) p q)
+      one_child f s.0 a b n s.2 (subst (λ (x : ℕ). on_line shape f x b ≡ true) (same_Some u.0 s.0 (sym u.1 ∙ s.1)) u.2) p q)
       (cases_eq k b))
       (cases_eq k a)
     where
-      same : (x y : ℕ) → Some x ≡ Some y → x ≡ y
-      same x y e = cc
-
-      crossed : (f k a b n : ℕ) → k ≡ a → k ≢ b → on_line shape (suc f) k b ≡ true → (shape a).parent ≡ Some n → (shape b).parent ≡ Some n → ⊥
+      crossed : (f k a b n : ℕ) → k ≡ a → k ≢ b → on_line shape (suc f) k b ≡ true → (shape a).parent ≡ Some n →
+          (shape b).parent ≡ Some n → ⊥
       crossed f k a b n e ne g p q =
           let s = line_step shape t f k b ne g in
-          let w : s.0 ≡ n = same s.0 n (sym s.1 ∙ (ap (λ (x : ℕ). (shape x).parent) e ∙ p)) in
+          let w : s.0 ≡ n = same_Some s.0 n (sym s.1 ∙ (ap (λ (x : ℕ). (shape x).parent) e ∙ p)) in
           let le = on_le f s.0 b s.2 in let less = t.smaller b n q in
           omega arith
 
   -- an amount at a level counts at n or at one child of n
-  spreads : (len n k x : ℕ) → cond (k == n) x 0 + sum_to len (λ j. of_child (shape j) n (cond (on_line shape k k j) x 0)) ≤ cond (on_line shape k k n) x 0
+  spreads : (len n k x : ℕ) → cond (k == n) x 0 + sum_to len (λ j. of_child (shape j) n (cond (on_line shape k k j) x 0))
+      ≤ cond (on_line shape k k n) x 0
   spreads len n k x = ⊎_elim
       (λ e. rw (eq-eqb k n e) (let on = subst (λ (y : ℕ). on_line shape k k y ≡ true) e (on_self shape t k k) in rw on
-      (let z = sum_to-none len (λ j. of_child (shape j) n (cond (on_line shape k k j) x 0)) (λ j. no_term j (λ p h. (let le = on_le k k j h in let less = t.smaller j n p in omega arith))) in omega arith)))
+      (let z = sum_to-none len (λ j. of_child (shape j) n (cond (on_line shape k k j) x 0))
+      (λ j. no_term j (λ p h. (let le = on_le k k j h in let less = t.smaller j n p in omega arith))) in omega arith)))
       (λ ne. rw (ne_eqb k n ne) (⊎_elim
       (λ (on : on_line shape k k n ≡ true).
       let c = by_child shape t k k n ne on in
-      rw on (let z = sum_to-one len c.0 x (λ j. of_child (shape j) n (cond (on_line shape k k j) x 0)) (at_most (shape c.0) (on_line shape k k c.0))
+      rw on (let z = sum_to-one len c.0 x (λ j. of_child (shape j) n (cond (on_line shape k k j) x 0))
+      (at_most (shape c.0) (on_line shape k k c.0))
       (λ j other. no_term j (λ p h. other (one_child k k j c.0 n h c.2 p c.1))) in omega arith))
       (λ (not_on : on_line shape k k n ≡ false).
       rw not_on (let z = sum_to-none len (λ j. of_child (shape j) n (cond (on_line shape k k j) x 0))
@@ -74,18 +76,16 @@ module _ (shape : ℕ → Shape) (t : IsNodeTree shape) where
           most true false = omega arith
           most false b = omega arith
 
-      no_term : (j : ℕ) → ((shape j).parent ≡ Some n → on_line shape k k j ≡ true → ⊥) → of_child (shape j) n (cond (on_line shape k k j) x 0) ≡ 0
+      no_term : (j : ℕ) → ((shape j).parent ≡ Some n → on_line shape k k j ≡ true → ⊥) →
+          of_child (shape j) n (cond (on_line shape k k j) x 0) ≡ 0
       no_term j h = ⊎_elim
           (λ (on : on_line shape k k j ≡ true). ⊎_elim
-          (λ (y : (shape j).is_open && is_at (shape j).parent n ≡ true). absurd (h (at_some (shape j).parent n (and_parts (shape j).is_open (is_at (shape j).parent n) y).1) on))
+          (λ (y : (shape j).is_open && is_at (shape j).parent n ≡ true). absurd
+          (h (at_some (shape j).parent n (and_parts (shape j).is_open (is_at (shape j).parent n) y).1) on))
           (λ (no : (shape j).is_open && is_at (shape j).parent n ≡ false). rw no refl)
           (cases_Bool ((shape j).is_open && is_at (shape j).parent n)))
-          (λ (off : on_line shape k k j ≡ false). rw off (zeros ((shape j).is_open && is_at (shape j).parent n)))
+          (λ (off : on_line shape k k j ≡ false). rw off (zero_cond ((shape j).is_open && is_at (shape j).parent n)))
           (cases_Bool (on_line shape k k j))
-        where
-          zeros : (b : Bool) → ◌≡◌ {A = ℕ} (cond b 0 0) 0
-          zeros true = refl
-          zeros false = refl
 
 -- what a claim has in held numbers at its level
 abbrev pub has : Phase → ℕ
@@ -138,7 +138,8 @@ below shape n x = cond (on_line shape x.0 x.0 n) x.1 0
 
 -- a sum over the items is one over the claims and one over the rows
 split : (f : Item → ℕ) (a : Account) → sum_by f (items a) ≡ sum_by (λ c. f (claim_item c)) a.claims + sum_by (λ r. f (row_item r)) a.rows
-split f a = let p = sum_by-append f (map claim_item a.claims) (map row_item a.rows) in let q = sum_by-map f claim_item a.claims in let r = sum_by-map f row_item a.rows in omega arith
+split f a = let p = sum_by-append f (map claim_item a.claims) (map row_item a.rows) in let q = sum_by-map f claim_item a.claims in
+    let r = sum_by-map f row_item a.rows in omega arith
 
 -- the sum of what a child passes on is what it passes on of the sum
 child_sum : {X : Type 0} (s : Shape) (n : ℕ) (h : X → ℕ) (xs : List X) → sum_by (λ x. of_child s n (h x)) xs ≡ of_child s n (sum_by h xs)
@@ -146,7 +147,7 @@ child_sum {X} s n h xs = go (s.is_open && is_at s.parent n)
   where
     go : (b : Bool) → sum_by (λ (x : X). cond b (h x) 0) xs ≡ cond b (sum_by h xs) 0
     go true = refl
-    go false = sum_by-none xs
+    go false = sum_by-zeros xs
 
 -- two parts of an amount, each where it counts, are within it
 part : (a b : Bool) (x y z : ℕ) → x + y ≤ z → cond (a && b) x 0 + cond a y 0 ≤ cond a z 0
@@ -156,12 +157,10 @@ part false b x y z h = omega arith
 
 -- what a claim is charged at n, with what it has to subtract there, is within its amount at n
 claim_here : (n node : ℕ) (under : Option ℕ) (phase : Phase) →
-    own_charge n (record { node = node; under = under; phase = phase }) + pending_subtraction n phase ≤ item_at n (claim_item (record { node = node; under = under; phase = phase }))
-claim_here n node under (Down size next pending) = let a = part (node == n) (is_none under) 0 0 0 (omega arith) in let b = zeros (node == n) in omega arith
-  where
-    zeros : (b : Bool) → ◌≡◌ {A = ℕ} (cond b 0 0) 0
-    zeros true = refl
-    zeros false = refl
+    own_charge n (record { node = node; under = under; phase = phase }) + pending_subtraction n phase
+    ≤ item_at n (claim_item (record { node = node; under = under; phase = phase }))
+claim_here n node under (Down size next pending) = let a = part (node == n) (is_none under) 0 0 0 (omega arith) in
+    let b = zero_cond (node == n) in omega arith
 claim_here n node under phase = go (node == n) (is_none under) (charged phase)
   where
     go : (a b : Bool) (x : ℕ) → cond (a && b) x 0 + 0 ≤ cond a x 0
@@ -173,7 +172,14 @@ claim_here n node under phase = go (node == n) (is_none under) (charged phase)
 row_here : (n h : ℕ) (r : Row) → r.held ≤ h → child_count n r ≤ of_child r.shape n h + item_at n (row_item r)
 row_here n h r le = go r.shape.is_open r.shape.parent
   where
-    go : (o : Bool) (p : Option ℕ) → cond (o && is_at p n) (max r.held r.shape.reservation) 0 ≤ cond (o && is_at p n) h 0 + item_at n (row_item (record { shape = record { made = r.shape.made; is_open = o; parent = p; reservation = r.shape.reservation }; limit = r.limit; held = r.held; uses = r.uses }))
+    go : (o : Bool) (p : Option ℕ) → cond (o && is_at p n) (max r.held r.shape.reservation) 0
+        ≤ cond (o && is_at p n) h 0 + item_at n
+        (row_item (record {
+          shape = record { made = r.shape.made; is_open = o; parent = p; reservation = r.shape.reservation };
+          limit = r.limit;
+          held = r.held;
+          uses = r.uses;
+        }))
     go true (Some m) = both (m == n)
       where
         both : (b : Bool) → cond b (max r.held r.shape.reservation) 0 ≤ cond b h 0 + cond b r.shape.reservation 0
@@ -198,18 +204,23 @@ module _ (a : Account) (s : HeldLaw a) where
       let len = length a.rows in
       let b = s.balance n o in
       let c₁ = sum_by-add (own_charge n) (λ (c : Claim). pending_subtraction n c.phase) a.claims in
-      let c₂ = sum_by-le_each (λ (c : Claim). own_charge n c + pending_subtraction n c.phase) (λ (c : Claim). item_at n (claim_item c)) a.claims
-      (All-from_get_or (λ (c : Claim). own_charge n c + pending_subtraction n c.phase ≤ item_at n (claim_item c)) a.claims no_claim (λ i h. claim_here n (get_or a.claims i no_claim).node (get_or a.claims i no_claim).under (get_or a.claims i no_claim).phase)) in
+      let c₂ = sum_by-le_each (λ (c : Claim). own_charge n c + pending_subtraction n c.phase) (λ (c : Claim). item_at n (claim_item c))
+      a.claims
+      (All-from_get_or (λ (c : Claim). own_charge n c + pending_subtraction n c.phase ≤ item_at n (claim_item c)) a.claims no_claim
+      (λ i h. claim_here n (get_or a.claims i no_claim).node (get_or a.claims i no_claim).under (get_or a.claims i no_claim).phase)) in
       let r₁ = sum_by-sum_to (child_count n) a.rows blank in
-      let r₂ = sum_to-le len (λ j. child_count n (row a.rows j)) (λ j. of_child (sh j) n (sum_by (below sh j) (items a)) + item_at n (row_item (row a.rows j)))
+      let r₂ = sum_to-le len (λ j. child_count n (row a.rows j))
+      (λ j. of_child (sh j) n (sum_by (below sh j) (items a)) + item_at n (row_item (row a.rows j)))
       (λ j. row_below n j (λ opened above. (within_below f j (omega arith) opened))) in
       let r₃ = sum_to-add len (λ j. of_child (sh j) n (sum_by (below sh j) (items a))) (λ j. item_at n (row_item (row a.rows j))) in
       let r₄ = sum_by-sum_to (λ (r : Row). item_at n (row_item r)) a.rows blank in
       let e₁ = exchange (λ j (x : Item). of_child (sh j) n (below sh j x)) len (items a) in
-      let e₂ = sum_to-same len (λ j. sum_by (λ (x : Item). of_child (sh j) n (below sh j x)) (items a)) (λ j. of_child (sh j) n (sum_by (below sh j) (items a))) (λ j. child_sum (sh j) n (below sh j) (items a)) in
+      let e₂ = sum_to-same len (λ j. sum_by (λ (x : Item). of_child (sh j) n (below sh j x)) (items a))
+      (λ j. of_child (sh j) n (sum_by (below sh j) (items a))) (λ j. child_sum (sh j) n (below sh j) (items a)) in
       let i₁ = split (item_at n) a in
       let i₂ = sum_by-add (item_at n) (λ (x : Item). sum_to len (λ j. of_child (sh j) n (below sh j x))) (items a) in
-      let i₃ = sum_by-le-sum_by (λ (x : Item). item_at n x + sum_to len (λ j. of_child (sh j) n (below sh j x))) (below sh n) (items a) (λ (x : Item). spreads sh s.tree len n x.0 x.1) in
+      let i₃ = sum_by-le-sum_by (λ (x : Item). item_at n x + sum_to len (λ j. of_child (sh j) n (below sh j x))) (below sh n) (items a)
+      (λ (x : Item). spreads sh s.tree len n x.0 x.1) in
       omega arith
     where
       row_below : (n j : ℕ) → (IsOpen sh j → n < j → (row a.rows j).held ≤ sum_by (below sh j) (items a)) →
@@ -228,7 +239,9 @@ module _ (a : Account) (s : HeldLaw a) where
       let w = within_below (length a.rows) n (omega arith) o in
       let u = sum_by-le-sum_by (below sh n) (λ (x : Item). x.1) (items a) (λ (x : Item). cut (on_line sh x.0 x.0 n) x.1) in
       let i = split (λ (x : Item). x.1) a in
-      let c = sum_by-le_each (λ (c : Claim). has c.phase) (λ (c : Claim). size_of c.phase) a.claims (All-weaker (λ (c : Claim). ClaimFits sh c.node c.under c.phase) (λ (c : Claim). has c.phase ≤ size_of c.phase) (λ (c : Claim). has_less c.node c.under c.phase) a.claims s.claims) in
+      let c = sum_by-le_each (λ (c : Claim). has c.phase) (λ (c : Claim). size_of c.phase) a.claims
+      (All-weaker (λ (c : Claim). ClaimFits sh c.node c.under c.phase) (λ (c : Claim). has c.phase ≤ size_of c.phase)
+      (λ (c : Claim). has_less c.node c.under c.phase) a.claims s.claims) in
       let r = sum_by-le-sum_by (λ (r : Row). (row_item r).1) open_reservation a.rows (λ (r : Row). row_less r r.shape.parent) in
       omega arith)
       (λ (c : (sh n).is_open ≡ false). let e = s.empty n c in omega arith)

@@ -3,18 +3,16 @@ use Rattle.std.proofs.Common.{◌≡◌, ℕ, ◌-◌, ◌<◌, ◌≤◌, List,
 use Rattle.std.proofs.lemmas.List.{map-set, length-map, get_or-map, get_or_default}
 use Rattle.acct_core.specs.declared.row.Row.{Row}
 use Rattle.acct_core.specs.declared.shape.Shape.{Shape}
-use Rattle.acct_core.specs.declared.claim.Claim.{Claim}
-use Rattle.acct_core.specs.declared.account.Account.{Account}
+use Rattle.acct_core.specs.Claims.{Claim, Account, claim, no_claim}
 use Rattle.acct_core.specs.declared.told.Told.{Told}
 use Rattle.acct_core.specs.declared.event.Event.{Event}
 use Rattle.acct_core.specs.declared.event.Event.TheVariants as events
 use Rattle.acct_core.specs.declared.slot.Slot.{Slot}
 use Rattle.acct_core.specs.Rows.{blank, row}
-use Rattle.acct_core.specs.Claims.{claim, no_claim}
 use Rattle.acct_core.specs.Effects.{Effect, effect_of, claim_number, level_of}
 use Rattle.acct_core.specs.Applies.{Applies, AppliesToClaim}
 use Rattle.acct_core.specs.Slots.{claim_of, account_of, TakesEvent, IsSafe}
-use Rattle.acct_core.specs.State.{State, made_count, spent, GivesNumber, StepsTo, IsOfClaim, IsThere, HasNumber, CanTake, IsLawfulState}
+use Rattle.acct_core.specs.State.{State, made_count, spent, GivesNumber, StepsTo, IsOfClaim, IsThere, HasNumber, CanTake, IsLawfulMachine, state_of}
 use Rattle.acct_core.proofs.FitsLemmas.{whole_law}
 use Rattle.acct_core.proofs.LineLemmas.{made_in}
 use Rattle.acct_core.proofs.LawLemmas.{keeps}
@@ -22,12 +20,16 @@ use Rattle.acct_core.proofs.StateLemmas.{same_count, each_step}
 use Rattle.acct_core.proofs.TakeLemmas.{effect_in_phase, phase_has_effect}
 use Rattle.acct_core.proofs.SafeLemmas.{event_safe}
 
--- the state that rows, slots and bytes stand for
-abbrev pub state_of : List Row → List Slot → ℕ → State
-state_of rows slots bytes = record { account = account_of rows slots; bytes = bytes }
+-- A step of a machine that leaves it lawful, and after which so many allocators were made
+pub record IsStep (old : State) (event : Event) (told : Told) (new : State) (count : ℕ) : Type 0 where
+  pub steps : StepsTo old event told new
+  pub taken : CanTake old event
+  pub lawful : IsLawfulMachine new
+  pub made : count ≡ made_count new.account.rows
 
 -- what is said of a step of a claim is said for events of claims
-applies_of : (a : Account) (event : Event) (told : Told) (b : Account) → IsOfClaim event → AppliesToClaim a event told b → Applies a event told b
+applies_of : (a : Account) (event : Event) (told : Told) (b : Account) → IsOfClaim event → AppliesToClaim a event told b →
+    Applies a event told b
 applies_of a (events.Enter i node) told b k m = m
 applies_of a (events.Begin i size force) told b k m = m
 applies_of a (events.Up i) told b k m = m
@@ -50,8 +52,10 @@ has_number a event k = grind arith
 gives_number : (event : Event) (told : Told) (next : ℕ) → IsOfClaim event → GivesNumber event told next
 gives_number event told next k = grind arith
 
-module _ (rows : List Row) (slots : List Slot) (bytes : ℕ) (s : State) (view : state_of rows slots bytes ≡ s) (l : IsLawfulState (state_of rows slots bytes))
-    (event : Event) (kind : IsOfClaim event) (i : ℕ) (number : i ≡ claim_number event) (slot : Slot) (there : i < length slots) (at : slot ≡ get_or slots i slot)
+module _ (rows : List Row) (slots : List Slot) (bytes : ℕ) (s : State) (view : state_of rows slots bytes ≡ s)
+    (l : IsLawfulMachine (state_of rows slots bytes))
+    (event : Event) (kind : IsOfClaim event) (i : ℕ) (number : i ≡ claim_number event) (slot : Slot) (there : i < length slots)
+    (at : slot ≡ get_or slots i slot)
     (level : ℕ) (level_is : level ≡ level_of event (claim_of slot)) where
   -- the account
   abbrev a : Account
@@ -81,13 +85,15 @@ module _ (rows : List Row) (slots : List Slot) (bytes : ℕ) (s : State) (view :
   pub turn_outside : length rows ≤ level → CanTake s event → ⊥
   turn_outside h can =
       let c = subst (λ (x : State). CanTake x event) (sym view) can in
-      let u = phase_has_effect (claim a (claim_number event)) (row rows (level_of event (claim a (claim_number event)))) event kind c.in_phase in
+      let u = phase_has_effect (claim a (claim_number event)) (row rows (level_of event (claim a (claim_number event)))) event kind
+      c.in_phase in
       let k = keeps a event u.0 (whole_law a l.lawful).held inside u.1 in
       let m = made_in rows (level_of event (claim a (claim_number event))) k.made in
       let e = its_level in
       omega arith
 
-  module _ (r r' : Row) (slot' : Slot) (told : Told) (h : level < length rows) (e : r ≡ get_or rows level r) (takes : TakesEvent event slot r told slot' r') where
+  module _ (r r' : Row) (slot' : Slot) (told : Told) (h : level < length rows) (e : r ≡ get_or rows level r)
+      (takes : TakesEvent event slot r told slot' r') where
     abbrev effect : Effect
     effect = record { told = told; row = r'; claim = claim_of slot' }
 
@@ -95,7 +101,8 @@ module _ (rows : List Row) (slots : List Slot) (bytes : ℕ) (s : State) (view :
     b = account_of (set rows level r') (set slots i slot')
 
     is_effect : effect_of event (claim a (claim_number event)) (row rows (level_of event (claim a (claim_number event)))) ≡ Some effect
-    is_effect = subst (λ (c : Claim). effect_of event c (row rows (level_of event c)) ≡ Some effect) (sym its_claim) (subst (λ (x : Row). effect_of event (claim_of slot) x ≡ Some effect) (sym (its_effect r h e)) takes)
+    is_effect = subst (λ (c : Claim). effect_of event c (row rows (level_of event c)) ≡ Some effect) (sym its_claim)
+        (subst (λ (x : Row). effect_of event (claim_of slot) x ≡ Some effect) (sym (its_effect r h e)) takes)
 
     applies : AppliesToClaim a event told b
     applies = record {
@@ -107,27 +114,34 @@ module _ (rows : List Row) (slots : List Slot) (bytes : ℕ) (s : State) (view :
       claims = map-set claim_of slots i slot' ∙ ap (λ (n : ℕ). set (map claim_of slots) n (claim_of slot')) number;
     }
 
-    steps : (size : ℕ) → size ≡ spent event → size ≤ bytes → StepsTo (state_of rows slots bytes) event told (state_of (set rows level r') (set slots i slot') (bytes - size))
-    steps size is fits = record { applies = applies_of a event told b kind applies; number = gives_number event told (made_count rows) kind; bytes = omega arith }
+    steps : (size : ℕ) → size ≡ spent event → size ≤ bytes →
+        StepsTo (state_of rows slots bytes) event told (state_of (set rows level r') (set slots i slot') (bytes - size))
+    steps size is fits = record {
+      applies = applies_of a event told b kind applies;
+      number = gives_number event told (made_count rows) kind;
+      bytes = omega arith;
+    }
 
-    -- the step of the machine
-    pub turn_steps : (size : ℕ) → size ≡ spent event → size ≤ bytes → StepsTo s event told (state_of (set rows level r') (set slots i slot') (bytes - size))
-    turn_steps size is fits = subst (λ (x : State). StepsTo x event told (state_of (set rows level r') (set slots i slot') (bytes - size))) view (steps size is fits)
-
-    pub turn_lawful : (size : ℕ) → size ≡ spent event → size ≤ bytes → IsLawfulState (state_of (set rows level r') (set slots i slot') (bytes - size))
-    turn_lawful size is fits = each_step (state_of rows slots bytes) (state_of (set rows level r') (set slots i slot') (bytes - size)) event told (steps size is fits) l
-
-    -- as many allocators were made as before
-    pub turn_made : (made : ℕ) → made ≡ made_count rows → made ≡ made_count (set rows level r')
-    turn_made made m =
+    -- the row changes no number
+    same_made : r'.shape.made ≡ (row rows level).shape.made
+    same_made =
         let k = keeps a event effect (whole_law a l.lawful).held inside is_effect in
-        let same : r'.shape.made ≡ (row rows level).shape.made = ap (λ (x : Shape). x.made) k.same ∙ ap (λ (n : ℕ). (row rows n).shape.made) its_level in
-        m ∙ sym (same_count (state_of rows slots bytes) l level r' h same)
+        ap (λ (x : Shape). x.made) k.same ∙ ap (λ (n : ℕ). (row rows n).shape.made) its_level
 
-    pub turn_taken : spent event ≤ bytes → CanTake s event
-    turn_taken fits = subst (λ (x : State). CanTake x event) view (record {
-      there = is_there a event kind inside;
-      in_phase = effect_in_phase (claim a (claim_number event)) (row rows (level_of event (claim a (claim_number event)))) event effect is_effect;
-      number = has_number a event kind;
-      afforded = fits;
-    })
+    -- the turn is a step of the machine
+    pub turns : (size made : ℕ) → size ≡ spent event → size ≤ bytes → made ≡ made_count rows →
+        IsStep s event told (state_of (set rows level r') (set slots i slot') (bytes - size)) made
+    turns size made is fits count = record {
+      steps = subst (λ (x : State). StepsTo x event told (state_of (set rows level r') (set slots i slot') (bytes - size))) view
+          (steps size is fits);
+      taken = subst (λ (x : State). CanTake x event) view (record {
+        there = is_there a event kind inside;
+        in_phase = effect_in_phase (claim a (claim_number event)) (row rows (level_of event (claim a (claim_number event)))) event effect
+            is_effect;
+        number = has_number a event kind;
+        afforded = omega (arith, is, fits);
+      });
+      lawful = each_step (state_of rows slots bytes) (state_of (set rows level r') (set slots i slot') (bytes - size)) event told
+          (steps size is fits) l;
+      made = count ∙ sym (same_count (state_of rows slots bytes) l level r' h same_made);
+    }

@@ -5,17 +5,14 @@ use Rattle.std.proofs.lemmas.Bool.{true≢false, cases_eq, cases_lt, cases_Bool,
 use Rattle.std.proofs.lemmas.List.Elements.{All-weaker}
 use Rattle.acct_core.specs.declared.shape.Shape.{Shape}
 use Rattle.acct_core.specs.declared.level_step.LevelStep.{LevelStep}
-use Rattle.acct_core.specs.declared.phase.Phase.{Phase}
-use Rattle.acct_core.specs.declared.claim.Claim.{Claim}
-use Rattle.acct_core.specs.declared.account.Account.{Account}
+use Rattle.acct_core.specs.Phases.{Phase, pending_addition, pending_subtraction}
+use Rattle.acct_core.specs.Claims.{Claim, Account, own_charge}
 use Rattle.acct_core.specs.NodeTree.{IsNodeTree, IsOpen, Reaches}
 use Rattle.acct_core.proofs.FitsLemmas.{ClaimFits, HeldLaw}
 use Rattle.acct_core.specs.Rows.{blank, row, shapes, is_at}
-use Rattle.acct_core.specs.Phases.{pending_addition, pending_subtraction}
-use Rattle.acct_core.specs.Claims.{own_charge}
 use Rattle.acct_core.specs.Balance.{child_count}
-use Rattle.acct_core.specs.declared.phase.Phase.TheVariants.{Free, In, Up, Held, Failed, Down, Bounced}
-use Rattle.acct_core.proofs.SumLemmas.{sum_to, sum_to-le, at-le-sum_to, sum_by-sum_to, sum_by-none, sum_by-add, exchange, sum_by-le_each}
+use Rattle.acct_core.specs.Phases.Phase.{Free, In, Up, Held, Failed, Down, Bounced}
+use Rattle.acct_core.proofs.SumLemmas.{sum_to, sum_to-le, at-le-sum_to, sum_by-sum_to, sum_by-zeros, sum_by-add, exchange, sum_by-le_each}
 use Rattle.acct_core.proofs.LineLemmas.{at_some, made_in, on_line, on_reaches, by_child, line_open}
 
 -- the size of a claim that has gone up past n
@@ -61,9 +58,11 @@ none_off next n pending size h = grind (arith, nat_tests)
 
 module _ (shape : ℕ → Shape) (t : IsNodeTree shape) (len : ℕ) (inside : (n : ℕ) → IsOpen shape n → n < len) where
   -- a claim on its way up is charged at n, or has gone past a child of n
-  climbing : (k n : ℕ) (under : Option ℕ) (size next pending : ℕ) (forced : Bool) (steps : List LevelStep) → ClaimFits shape k under (Up size next pending forced steps) →
+  climbing : (k n : ℕ) (under : Option ℕ) (size next pending : ℕ) (forced : Bool) (steps : List LevelStep) →
+      ClaimFits shape k under (Up size next pending forced steps) →
       weight (on_line shape k k n) next n pending size
-      ≤ cond (k == n && is_none under) size 0 + sum_to len (λ j. of_child (shape j) n (past_phase shape j k (Up size next pending forced steps)))
+      ≤ cond (k == n && is_none under) size 0 + sum_to len
+      (λ j. of_child (shape j) n (past_phase shape j k (Up size next pending forced steps)))
   climbing k n under size next pending forced steps fits = ⊎_elim
       (λ same. rw (fits.1, eq-eqb k n same) (let a = at_most_size (on_line shape k k n) next n pending size fits.4 in omega arith))
       (λ other. ⊎_elim
@@ -75,13 +74,16 @@ module _ (shape : ℕ → Shape) (t : IsNodeTree shape) (len : ℕ) (inside : (n
       (λ (above : n < next). rw (none_below (on_line shape k k n) next n pending size above) (omega arith))
       (λ (below : next ≤ n).
       let e : of_child (shape c.0) n (past_phase shape c.0 k (Up size next pending forced steps)) ≡ size =
-      child_at (shape c.0) n (past_phase shape c.0 k (Up size next pending forced steps)) opened c.1 ∙ rw (c.2, lt-ltb next c.0 (omega arith)) refl in
+      child_at (shape c.0) n (past_phase shape c.0 k (Up size next pending forced steps)) opened c.1
+      ∙ rw (c.2, lt-ltb next c.0 (omega arith)) refl in
       let a = at_most_size (on_line shape k k n) next n pending size fits.4 in
-      let b = at-le-sum_to len (λ j. of_child (shape j) n (past_phase shape j k (Up size next pending forced steps))) c.0 (inside c.0 opened) in
+      let b = at-le-sum_to len (λ j. of_child (shape j) n (past_phase shape j k (Up size next pending forced steps))) c.0
+      (inside c.0 opened) in
       omega arith)
       (cases_lt n next))
       (λ (off : on_line shape k k n ≡ false).
-      let ne : next ≢ n = λ e. true≢false (sym (on_reaches shape t k k n (omega arith) (subst (λ (x : ℕ). Reaches shape k x) e fits.2)) ∙ off) in
+      let ne : next ≢ n = λ e. true≢false (sym (on_reaches shape t k k n (omega arith) (subst (λ (x : ℕ). Reaches shape k x) e fits.2))
+      ∙ off) in
       rw (off, none_off next n pending size ne) (omega arith))
       (cases_Bool (on_line shape k k n)))
       (cases_eq k n)
@@ -93,7 +95,8 @@ module _ (shape : ℕ → Shape) (t : IsNodeTree shape) (len : ℕ) (inside : (n
   comes_by n c fits = go c.node c.under c.phase fits
     where
       go : (k : ℕ) (under : Option ℕ) (phase : Phase) → ClaimFits shape k under phase →
-          pending_addition n phase + past_phase shape n k phase ≤ own_charge n (record { node = k; under = under; phase = phase }) + sum_to len (λ j. of_child (shape j) n (past_phase shape j k phase))
+          pending_addition n phase + past_phase shape n k phase ≤ own_charge n (record { node = k; under = under; phase = phase }) + sum_to
+          len (λ j. of_child (shape j) n (past_phase shape j k phase))
       go k under Free fits = omega arith
       go k under In fits = omega arith
       go k under (Held size forced steps) fits = omega arith
@@ -116,7 +119,7 @@ module _ (a : Account) (s : HeldLaw a) where
       let e = at_some (shapes a.rows j).parent n p.1 in
       let less = s.tree.smaller j n e in
       rw yes (let r = below p.0 less in omega arith))
-      (λ (no : (shapes a.rows j).is_open && is_at (shapes a.rows j).parent n ≡ false). rw no (let z = sum_by-none a.claims in omega arith))
+      (λ (no : (shapes a.rows j).is_open && is_at (shapes a.rows j).parent n ≡ false). rw no (let z = sum_by-zeros a.claims in omega arith))
       (cases_Bool ((shapes a.rows j).is_open && is_at (shapes a.rows j).parent n))
 
   -- held covers the pending subtractions and the sizes that have gone past, from the greatest numbers down
@@ -126,12 +129,16 @@ module _ (a : Account) (s : HeldLaw a) where
   covered_from (suc f) n h o =
       let sh = shapes a.rows in
       let e₁ = sum_by-add (λ (c : Claim). pending_addition n c.phase) (past sh n) a.claims in
-      let e₂ = sum_by-le_each (λ (c : Claim). pending_addition n c.phase + past sh n c) (λ (c : Claim). own_charge n c + sum_to (length a.rows) (λ j. of_child (sh j) n (past sh j c))) a.claims
-      (All-weaker (λ (c : Claim). ClaimFits sh c.node c.under c.phase) (λ (c : Claim). pending_addition n c.phase + past sh n c ≤ own_charge n c + sum_to (length a.rows) (λ j. of_child (sh j) n (past sh j c)))
+      let e₂ = sum_by-le_each (λ (c : Claim). pending_addition n c.phase + past sh n c)
+      (λ (c : Claim). own_charge n c + sum_to (length a.rows) (λ j. of_child (sh j) n (past sh j c))) a.claims
+      (All-weaker (λ (c : Claim). ClaimFits sh c.node c.under c.phase)
+      (λ (c : Claim). pending_addition n c.phase + past sh n c
+      ≤ own_charge n c + sum_to (length a.rows) (λ j. of_child (sh j) n (past sh j c)))
       (comes_by sh s.tree (length a.rows) open_inside n) a.claims s.claims) in
       let e₃ = sum_by-add (own_charge n) (λ (c : Claim). sum_to (length a.rows) (λ j. of_child (sh j) n (past sh j c))) a.claims in
       let e₄ = exchange (λ j (c : Claim). of_child (sh j) n (past sh j c)) (length a.rows) a.claims in
-      let e₅ = sum_to-le (length a.rows) (λ j. sum_by (λ (c : Claim). of_child (sh j) n (past sh j c)) a.claims) (λ j. child_count n (row a.rows j))
+      let e₅ = sum_to-le (length a.rows) (λ j. sum_by (λ (c : Claim). of_child (sh j) n (past sh j c)) a.claims)
+      (λ j. child_count n (row a.rows j))
       (λ j. asks_enough n j (λ opened above. (let r = covered_from f j (omega arith) opened in omega arith))) in
       let e₆ = sum_by-sum_to (child_count n) a.rows blank in
       let b = s.balance n o in

@@ -3,13 +3,11 @@ use Rattle.std.proofs.Common.{true, None, All, ap, ◌∙◌, ◌≡◌, ℕ, �
 use Rattle.std.proofs.lemmas.List.Elements.{All-get_or, All-set}
 use Rattle.std.proofs.lemmas.List.Sums.{get_or-le-sum_by}
 use Rattle.acct_core.specs.declared.shape.Shape.{Shape}
-use Rattle.acct_core.specs.declared.claim.Claim.{Claim}
-use Rattle.acct_core.specs.declared.account.Account.{Account}
+use Rattle.acct_core.specs.Claims.{Claim, Account, claim, no_claim}
 use Rattle.acct_core.specs.Rows.{row, shapes}
 use Rattle.acct_core.specs.Phases.{pending_subtraction}
-use Rattle.acct_core.proofs.FitsLemmas.{ClaimFits, HeldLaw, UsesLaw, BackingLaw, WholeLaw, whole_law, lawful_account, balanced_account, fixed_law, each_claim, in_time}
+use Rattle.acct_core.proofs.FitsLemmas.{ClaimFits, HeldLaw, UsesLaw, BackingLaw, WholeLaw, whole_law, lawful_account, balanced_account, fixed_law, each_claim, in_time, its_fits}
 use Rattle.acct_core.specs.NodeTree.{IsOpen}
-use Rattle.acct_core.specs.Claims.{claim, no_claim}
 use Rattle.acct_core.specs.Effects.{Effect, effect_of, level_of, claim_number, next_level}
 use Rattle.acct_core.specs.Applies.{AppliesToClaim, Applies}
 use Rattle.acct_core.specs.declared.told.Told.{Told}
@@ -25,26 +23,31 @@ use Rattle.acct_core.proofs.CloseLemmas.{closes_lawful}
 use Rattle.acct_core.proofs.EffectLemmas.{keeps_up, keeps_down, keeps_begin, keeps_undo, keeps_release, keeps_enter, keeps_leave}
 
 module _ (a : Account) (s : HeldLaw a) (i : ℕ) (there : i < length a.claims) where
-  -- what the law says of the claim i
-  its_fits : ClaimFits (shapes a.rows) (claim a i).node (claim a i).under (claim a i).phase
-  its_fits = All-get_or (λ (c : Claim). ClaimFits (shapes a.rows) c.node c.under c.phase) a.claims i no_claim there s.claims
-
-  -- what it has to subtract is there
+  -- what the claim i has to subtract is there
   its_pending : (n : ℕ) → IsOpen (shapes a.rows) n → pending_subtraction n (claim a i).phase ≤ (row a.rows n).held
-  its_pending n o = let c = covered a s n o in let t = get_or-le-sum_by (λ (c : Claim). pending_subtraction n c.phase) a.claims i no_claim there in omega arith
+  its_pending n o = let c = covered a s n o in
+      let t = get_or-le-sum_by (λ (c : Claim). pending_subtraction n c.phase) a.claims i no_claim there in omega arith
 
 -- what an event of a claim keeps at its claim and its row
 pub keeps : (a : Account) (e : Event) (u : Effect) → HeldLaw a → claim_number e < length a.claims →
     effect_of e (claim a (claim_number e)) (row a.rows (level_of e (claim a (claim_number e)))) ≡ Some u →
-    Keeps (shapes a.rows) (level_of e (claim a (claim_number e))) (row a.rows (level_of e (claim a (claim_number e)))) u.row (claim a (claim_number e)) u.claim
-keeps a (Enter i node) u s h e = keeps_enter (shapes a.rows) s.tree (claim a i).node (claim a i).under node.0 (claim a i).phase (row a.rows node.0) u (its_fits a s i h) refl (s.empty node.0) e
-keeps a (Begin i size force) u s h e = keeps_begin (shapes a.rows) s.tree (claim a i).node (claim a i).under size force (claim a i).phase (row a.rows (claim a i).node) u (its_fits a s i h) refl e
-keeps a (EventUp i) u s h e = keeps_up (shapes a.rows) s.tree (claim a i).node (claim a i).under (claim a i).phase (row a.rows (next_level (claim a i).node (claim a i).phase)) u (its_fits a s i h) refl e
-keeps a (Undo i) u s h e = keeps_undo (shapes a.rows) s.tree (claim a i).node (claim a i).under (claim a i).phase (row a.rows (claim a i).node) u (its_fits a s i h) refl e
-keeps a (Release i) u s h e = keeps_release (shapes a.rows) s.tree (claim a i).node (claim a i).under (claim a i).phase (row a.rows (claim a i).node) u (its_fits a s i h) refl e
-keeps a (EventDown i) u s h e = keeps_down (shapes a.rows) s.tree (claim a i).node (claim a i).under (claim a i).phase (row a.rows (next_level (claim a i).node (claim a i).phase)) u (its_fits a s i h) refl
+    Keeps (shapes a.rows) (level_of e (claim a (claim_number e))) (row a.rows (level_of e (claim a (claim_number e)))) u.row
+    (claim a (claim_number e)) u.claim
+keeps a (Enter i node) u s h e = keeps_enter (shapes a.rows) s.tree (claim a i).node (claim a i).under node.0 (claim a i).phase
+    (row a.rows node.0) u (its_fits a s i h) refl (s.empty node.0) e
+keeps a (Begin i size force) u s h e = keeps_begin (shapes a.rows) s.tree (claim a i).node (claim a i).under size force (claim a i).phase
+    (row a.rows (claim a i).node) u (its_fits a s i h) refl e
+keeps a (EventUp i) u s h e = keeps_up (shapes a.rows) s.tree (claim a i).node (claim a i).under (claim a i).phase
+    (row a.rows (next_level (claim a i).node (claim a i).phase)) u (its_fits a s i h) refl e
+keeps a (Undo i) u s h e = keeps_undo (shapes a.rows) s.tree (claim a i).node (claim a i).under (claim a i).phase
+    (row a.rows (claim a i).node) u (its_fits a s i h) refl e
+keeps a (Release i) u s h e = keeps_release (shapes a.rows) s.tree (claim a i).node (claim a i).under (claim a i).phase
+    (row a.rows (claim a i).node) u (its_fits a s i h) refl e
+keeps a (EventDown i) u s h e = keeps_down (shapes a.rows) s.tree (claim a i).node (claim a i).under (claim a i).phase
+    (row a.rows (next_level (claim a i).node (claim a i).phase)) u (its_fits a s i h) refl
     (its_pending a s i h (next_level (claim a i).node (claim a i).phase)) e
-keeps a (Leave i) u s h e = keeps_leave (shapes a.rows) s.tree (claim a i).node (claim a i).under (claim a i).phase (row a.rows (claim a i).node) u (its_fits a s i h) refl (s.empty (claim a i).node) e
+keeps a (Leave i) u s h e = keeps_leave (shapes a.rows) s.tree (claim a i).node (claim a i).under (claim a i).phase
+    (row a.rows (claim a i).node) u (its_fits a s i h) refl (s.empty (claim a i).node) e
 keeps a (Open i reservation limit) u s h e = absurd cc
 keeps a (Close n) u s h e = absurd cc
 
@@ -85,14 +88,18 @@ module _ (a b : Account) (e : Event) (told : Told) (m : AppliesToClaim a e told 
   pub fixed_after : IsFixedTree a → IsFixedTree b
   fixed_after f = record {
     opened = subst (λ (x : ℕ → Shape). (n : ℕ) → (x n).made ≡ true → IsOpen x n) (sym shapes_after) f.opened;
-    in_time = each_claim (λ (c : Claim). ClaimFits (shapes b.rows) c.node c.under c.phase) (λ (c : Claim). IsInTime (shapes b.rows) c.node c.phase) b.claims (λ c. in_time (shapes b.rows) c.node c.under c.phase) held_after.claims;
+    in_time = each_claim (λ (c : Claim). ClaimFits (shapes b.rows) c.node c.under c.phase)
+        (λ (c : Claim). IsInTime (shapes b.rows) c.node c.phase) b.claims (λ c. in_time (shapes b.rows) c.node c.under c.phase)
+        held_after.claims;
     bare = subst (All (λ (c : Claim). c.under ≡ None)) (sym m.claims)
-        (All-set (λ (c : Claim). c.under ≡ None) a.claims i m.claim_after (its_keeps.under ∙ All-get_or (λ (c : Claim). c.under ≡ None) a.claims i no_claim m.there f.bare) f.bare);
+        (All-set (λ (c : Claim). c.under ≡ None) a.claims i m.claim_after
+        (its_keeps.under ∙ All-get_or (λ (c : Claim). c.under ≡ None) a.claims i no_claim m.there f.bare) f.bare);
   }
 
   -- the whole law
   pub whole_after : UsesLaw a → BackingLaw a → WholeLaw b
-  whole_after u k = subst WholeLaw is_after (kept a i level m.row_after m.claim_after m.there level_inside its_keeps (record { held = s; uses = u; backing = k }))
+  whole_after u k = subst WholeLaw is_after
+      (kept a i level m.row_after m.claim_after m.there level_inside its_keeps (record { held = s; uses = u; backing = k }))
 
 -- each event of a claim keeps the law
 pub claim_law : (a b : Account) (e : Event) (told : Told) → AppliesToClaim a e told b → IsLawfulAccount a → IsLawfulAccount b
@@ -109,4 +116,5 @@ each_move a b e told m l = claim_law a b e told m l
 
 -- each event of a claim keeps the law of a fixed tree
 pub each_move_fixed : (a b : Account) (e : Event) (told : Told) → AppliesToClaim a e told b → IsLawfulFixedTree a → IsLawfulFixedTree b
-each_move_fixed a b e told m f = let s = fixed_law a f.fixed f.balanced in record { fixed = fixed_after a b e told m s f.fixed; balanced = balanced_account b (held_after a b e told m s) }
+each_move_fixed a b e told m f = let s = fixed_law a f.fixed f.balanced in
+    record { fixed = fixed_after a b e told m s f.fixed; balanced = balanced_account b (held_after a b e told m s) }

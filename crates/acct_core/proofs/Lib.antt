@@ -1,3 +1,4 @@
+-- The lemmas of this crate.
 pub mod SumLemmas
 pub mod LineLemmas
 pub mod FitsLemmas

@@ -31,7 +31,7 @@ on_line shape (suc f) k n = cond (k == n) true (and_some (shape k).parent (λ p.
 -- who is above an open node is open
 pub reaches_open : {shape : ℕ → Shape} {k n : ℕ} → IsNodeTree shape → Reaches shape k n → IsOpen shape k → IsOpen shape n
 reaches_open t here o = o
-reaches_open t (above {m = m} {p = p} r e) o = t.open_parent m p (reaches_open t r o) e
+reaches_open t (above {level = m} {parent = p} r e) o = t.open_parent m p (reaches_open t r o) e
 
 module _ (shape : ℕ → Shape) (t : IsNodeTree shape) where
   -- each number is on its own way
@@ -44,10 +44,12 @@ module _ (shape : ℕ → Shape) (t : IsNodeTree shape) where
   on_first f k q n e h = rw (e, h) (elim (k == n) as (λ b. cond b true true ≡ true) [ true ↦ refl | false ↦ refl ])
 
   -- a line with a second number: its first step
-  pub line_step : (f k n : ℕ) → k ≢ n → on_line shape (suc f) k n ≡ true → (q : ℕ) × ((shape k).parent ≡ Some q) × (on_line shape f q n ≡ true)
+  pub line_step : (f k n : ℕ) → k ≢ n → on_line shape (suc f) k n ≡ true → (q : ℕ) × ((shape k).parent ≡ Some q)
+      × (on_line shape f q n ≡ true)
   line_step f k n ne h = go (shape k).parent refl (rw (ne_eqb k n ne) at h)
     where
-      go : (o : Option ℕ) → (shape k).parent ≡ o → and_some o (λ p. on_line shape f p n) ≡ true → (q : ℕ) × ((shape k).parent ≡ Some q) × (on_line shape f q n ≡ true)
+      go : (o : Option ℕ) → (shape k).parent ≡ o → and_some o (λ p. on_line shape f p n) ≡ true → (q : ℕ) × ((shape k).parent ≡ Some q)
+          × (on_line shape f q n ≡ true)
       go None e g = absurd (cc)
       go (Some q) e g = (q, e, g)
 
@@ -64,7 +66,7 @@ module _ (shape : ℕ → Shape) (t : IsNodeTree shape) where
   -- who is above a node is on its way
   pub on_reaches : (f k n : ℕ) → k ≤ f → Reaches shape k n → on_line shape f k n ≡ true
   on_reaches f k n le here = on_self f k
-  on_reaches f k n le (above {m = m} {p = p} r e) = on_above f k m p le (on_reaches f k m le r) e
+  on_reaches f k n le (above {level = m} {parent = p} r e) = on_above f k m p le (on_reaches f k m le r) e
 
   -- a line that ends above its first number comes by a child of its end
   pub by_child : (f k n : ℕ) → k ≢ n → on_line shape f k n ≡ true → (c : ℕ) × ((shape c).parent ≡ Some n) × (on_line shape f k c ≡ true)

@@ -1,28 +1,25 @@
 -- The making of a child keeps the law.
 use Rattle.std.proofs.Common.{◌≡◌, ℕ, ◌≢◌, max, true, false, cond, ◌&&◌, is_none, set, ◌==◌, eq-eqb, Option, Some, None, sum_by, arith, refl, sym, ap, ◌∙◌, subst, ⊎_elim, get_or-set_same, get_or-set_other}
 use Rattle.std.proofs.lemmas.Bool.{true≢false, cases_eq, cases_Bool, and_parts}
-use Rattle.std.proofs.lemmas.List.Elements.{All-get_or, All-set, All-weaker, All-from_get_or}
+use Rattle.std.proofs.lemmas.List.Elements.{All-set, All-weaker, All-from_get_or}
 use Rattle.std.proofs.lemmas.List.Sums.{sum_by-set}
+use Rattle.mem_model.proofs.ChargeSumLemmas.{sum_by-none}
 use Rattle.acct_core.specs.declared.shape.Shape.{Shape}
 use Rattle.acct_core.specs.declared.row.Row.{Row}
-use Rattle.acct_core.specs.declared.phase.Phase.{Phase}
-use Rattle.acct_core.specs.declared.claim.Claim.{Claim}
-use Rattle.acct_core.specs.declared.account.Account.{Account}
+use Rattle.acct_core.specs.Phases.{Phase, charged, pending_addition, pending_subtraction}
+use Rattle.acct_core.specs.Claims.{Claim, Account, own_charge, use_count, backing_count, claim, no_claim}
 use Rattle.acct_core.specs.Rows.{blank, row, shapes, is_at}
-use Rattle.acct_core.specs.Phases.{charged, pending_addition, pending_subtraction}
-use Rattle.acct_core.specs.Claims.{own_charge, use_count, backing_count, claim, no_claim}
 use Rattle.acct_core.specs.Balance.{child_count, IsBalancedAt}
 use Rattle.acct_core.specs.NodeTree.{IsNodeTree, IsOpen, Reaches}
-use Rattle.acct_core.proofs.FitsLemmas.{ClaimFits, Carries, HeldLaw, UsesLaw, BackingLaw, WholeLaw}
+use Rattle.acct_core.proofs.FitsLemmas.{ClaimFits, Carries, HeldLaw, UsesLaw, BackingLaw, WholeLaw, its_fits}
 use Rattle.acct_core.specs.Lawful.{PaysFor, backing_needed}
-use Rattle.acct_core.specs.Applies.{child_row, OpensChild}
-use Rattle.acct_core.specs.declared.phase.Phase.TheVariants.{Free, In, Up, Held, Failed, Down, Bounced}
+use Rattle.acct_core.specs.Applies.{opened_row, OpensChild}
+use Rattle.acct_core.specs.Phases.Phase.{Free, In, Up, Held, Failed, Down, Bounced}
 use Rattle.acct_core.specs.NodeTree.Reaches.{here, above}
-use Rattle.acct_core.proofs.SumLemmas.{none_of, zero_cond, off, off_and}
-use Rattle.acct_core.proofs.LineLemmas.{reaches_open}
+use Rattle.acct_core.proofs.SumLemmas.{zero_cond, off, off_and, cond-and_false}
+use Rattle.acct_core.proofs.LineLemmas.{reaches_open, at_some}
 use Rattle.acct_core.proofs.BalanceLemmas.{row_set}
 use Rattle.acct_core.proofs.KeptLemmas.{each_row, same_account}
-use Rattle.acct_core.proofs.LineLemmas.{at_some}
 
 -- Allocators are added, and those that were made stay as they were
 abbrev pub Grows : (ℕ → Shape) → (ℕ → Shape) → Type 0
@@ -36,12 +33,14 @@ module _ (s t : ℕ → Shape) (tree : IsNodeTree s) (g : Grows s t) where
   -- who is above an open node stays above it
   pub still_reaches : (k n : ℕ) → IsOpen s k → Reaches s k n → Reaches t k n
   still_reaches k n o here = here
-  still_reaches k n o (above {m = m} {p = p} r e) = above (still_reaches k m o r) (ap (λ (x : Shape). x.parent) (g m (tree.made m (reaches_open tree r o))) ∙ e)
+  still_reaches k n o (above {level = m} {parent = p} r e) =
+      above (still_reaches k m o r) (ap (λ (x : Shape). x.parent) (g m (tree.made m (reaches_open tree r o))) ∙ e)
 
   -- a child stays as it was
   pub still_carries : (node size : ℕ) (under : Option ℕ) → Carries s node under size → Carries t node under size
   still_carries node size None c = tt
-  still_carries node size (Some k) c = let e = g k (tree.made k c.0) in (still_open k c.0, ap (λ (x : Shape). x.parent) e ∙ c.1, ap (λ (x : Shape). x.reservation) e ∙ c.2)
+  still_carries node size (Some k) c = let e = g k (tree.made k c.0) in
+      (still_open k c.0, ap (λ (x : Shape). x.parent) e ∙ c.1, ap (λ (x : Shape). x.reservation) e ∙ c.2)
 
   -- what the law says of a claim holds still
   pub still_fits : (node : ℕ) (under : Option ℕ) (phase : Phase) → ClaimFits s node under phase → ClaimFits t node under phase
@@ -58,14 +57,21 @@ apart : (s : ℕ → Shape) (m k : ℕ) → IsOpen s m → (s k).is_open ≡ fal
 apart s m k o c e = true≢false (sym o ∙ ap (λ (n : ℕ). (s n).is_open) e ∙ c)
 
 -- a level that isn't open has nothing to do with any claim
-pub far : (s : ℕ → Shape) (tree : IsNodeTree s) (k : ℕ) → (s k).is_open ≡ false → (node : ℕ) (under : Option ℕ) (phase : Phase) → ClaimFits s node under phase →
-    (pending_addition k phase ≡ 0) × (pending_subtraction k phase ≡ 0) × (own_charge k (record { node = node; under = under; phase = phase }) ≡ 0)
+pub far : (s : ℕ → Shape) (tree : IsNodeTree s) (k : ℕ) → (s k).is_open ≡ false → (node : ℕ) (under : Option ℕ) (phase : Phase) →
+    ClaimFits s node under phase →
+    (pending_addition k phase ≡ 0) × (pending_subtraction k phase ≡ 0)
+    × (own_charge k (record { node = node; under = under; phase = phase }) ≡ 0)
 far s tree k closed node under Free f = (refl, refl, zero_cond (node == k && is_none under))
 far s tree k closed node under In f = (refl, refl, zero_cond (node == k && is_none under))
-far s tree k closed node under (Up size next pending forced steps) f = (off next k pending (apart s next k (reaches_open tree f.2 f.0) closed), refl, off_and node k size (is_none under) (apart s node k f.0 closed))
+far s tree k closed node under (Up size next pending forced steps) f = (
+  off next k pending (apart s next k (reaches_open tree f.2 f.0) closed),
+  refl,
+  off_and node k size (is_none under) (apart s node k f.0 closed),
+)
 far s tree k closed node under (Held size forced steps) f = (refl, refl, off_and node k size (is_none under) (apart s node k f.0 closed))
 far s tree k closed node under (Failed size forced steps) f = (refl, refl, off_and node k size (is_none under) (apart s node k f.0 closed))
-far s tree k closed node under (Down size next pending) f = (refl, off next k pending (apart s next k (reaches_open tree f.2 f.0) closed), zero_cond (node == k && is_none under))
+far s tree k closed node under (Down size next pending) f =
+    (refl, off next k pending (apart s next k (reaches_open tree f.2 f.0) closed), zero_cond (node == k && is_none under))
 far s tree k closed node under Bounced f = (refl, refl, zero_cond (node == k && is_none under))
 
 -- a number that was made is none that was not
@@ -73,9 +79,10 @@ unmade : (s : ℕ → Shape) (m k : ℕ) → (s m).made ≡ true → (s k).made 
 unmade s m k o c e = true≢false (sym o ∙ ap (λ (n : ℕ). (s n).made) e ∙ c)
 
 -- a number that was never given has no uses
-unused : (s : ℕ → Shape) (tree : IsNodeTree s) (k : ℕ) → (s k).made ≡ false → (node : ℕ) (under : Option ℕ) (phase : Phase) → ClaimFits s node under phase →
+unused : (s : ℕ → Shape) (tree : IsNodeTree s) (k : ℕ) → (s k).made ≡ false → (node : ℕ) (under : Option ℕ) (phase : Phase) →
+    ClaimFits s node under phase →
     use_count k (record { node = node; under = under; phase = phase }) ≡ 0
-unused s tree k fresh node under Free f = elim (node == k) as (λ b. ◌≡◌ {A = ℕ} (cond (b && false) 1 0) 0) [ true ↦ refl | false ↦ refl ]
+unused s tree k fresh node under Free f = cond-and_false (node == k) 1
 unused s tree k fresh node under Bounced f = off_and node k 1 true (unmade s node k f.1 fresh)
 unused s tree k fresh node under In f = off_and node k 1 true (unmade s node k (tree.made node f.0) fresh)
 unused s tree k fresh node under (Up size next pending forced steps) f = off_and node k 1 true (unmade s node k (tree.made node f.0) fresh)
@@ -90,7 +97,8 @@ paid_amount reservation (Held size forced steps) h = sym h
 paid_amount reservation _ h = absurd h
 
 -- a claim that pays for a reservation carries a child that reserves just that
-payer_fits : (s t : ℕ → Shape) (reservation k node : ℕ) (under : Option ℕ) (phase : Phase) → PaysFor reservation phase → ClaimFits s node under phase →
+payer_fits : (s t : ℕ → Shape) (reservation k node : ℕ) (under : Option ℕ) (phase : Phase) → PaysFor reservation phase →
+    ClaimFits s node under phase →
     IsOpen t node → IsOpen t k → (t k).parent ≡ Some node → (t k).reservation ≡ reservation → ClaimFits t node (Some k) phase
 payer_fits s t reservation k node under In h f o ok p q = (o, (ok, p, q ∙ h))
 payer_fits s t reservation k node under (Held size forced steps) h f o ok p q = (o, (ok, p, q ∙ h), f.2, f.3)
@@ -107,7 +115,7 @@ module _ (a : Account) (l : WholeLaw a) (i reservation limit k : ℕ) (b : Accou
 
   -- the row of the child
   abbrev r' : Row
-  r' = child_row p reservation limit
+  r' = opened_row p reservation limit
 
   -- the claim that carries it
   abbrev d : Claim
@@ -120,10 +128,6 @@ module _ (a : Account) (l : WholeLaw a) (i reservation limit k : ℕ) (b : Accou
   -- the allocators are a tree before
   tree : IsNodeTree s
   tree = l.held.tree
-
-  -- what the law says of the claim
-  fits : ClaimFits s p (claim a i).under (claim a i).phase
-  fits = All-get_or (λ (c : Claim). ClaimFits s c.node c.under c.phase) a.claims i no_claim o.there l.held.claims
 
   -- the parent is open
   p_open : IsOpen s p
@@ -161,12 +165,17 @@ module _ (a : Account) (l : WholeLaw a) (i reservation limit k : ℕ) (b : Accou
         (λ ne. tree.smaller n q (sym (ap (λ (x : Shape). x.parent) (there_old n ne)) ∙ h))
         (cases_eq n k);
     made_parent = λ n q h. ⊎_elim
-        (λ e. let u : p ≡ q = parent_is n q e h in let m : (s q).made ≡ true = subst (λ (x : ℕ). (s x).made ≡ true) u (tree.made p p_open) in ap (λ (x : Shape). x.made) (grows q m) ∙ m)
-        (λ ne. let m = tree.made_parent n q (sym (ap (λ (x : Shape). x.parent) (there_old n ne)) ∙ h) in ap (λ (x : Shape). x.made) (grows q m) ∙ m)
+        (λ e. let u : p ≡ q = parent_is n q e h in
+        let m : (s q).made ≡ true = subst (λ (x : ℕ). (s x).made ≡ true) u (tree.made p p_open) in
+        ap (λ (x : Shape). x.made) (grows q m) ∙ m)
+        (λ ne. let m = tree.made_parent n q (sym (ap (λ (x : Shape). x.parent) (there_old n ne)) ∙ h) in
+        ap (λ (x : Shape). x.made) (grows q m) ∙ m)
         (cases_eq n k);
     open_parent = λ n q opened h. ⊎_elim
         (λ e. let u : p ≡ q = parent_is n q e h in still_open s t tree grows q (subst (IsOpen s) u p_open))
-        (λ ne. let w = there_old n ne in still_open s t tree grows q (tree.open_parent n q (sym (ap (λ (x : Shape). x.is_open) w) ∙ opened) (sym (ap (λ (x : Shape). x.parent) w) ∙ h)))
+        (λ ne. let w = there_old n ne in
+        still_open s t tree grows q
+        (tree.open_parent n q (sym (ap (λ (x : Shape). x.is_open) w) ∙ opened) (sym (ap (λ (x : Shape). x.parent) w) ∙ h)))
         (cases_eq n k);
   }
     where
@@ -178,13 +187,17 @@ module _ (a : Account) (l : WholeLaw a) (i reservation limit k : ℕ) (b : Accou
   amount = (paid_amount reservation (claim a i).phase o.pays, o.bare)
 
   -- a weight that the law puts at 0 for each claim has the sum 0
-  all_far : (f : Claim → ℕ) → ((node : ℕ) (under : Option ℕ) (phase : Phase) → ClaimFits s node under phase → f (record { node = node; under = under; phase = phase }) ≡ 0) → sum_by f a.claims ≡ 0
-  all_far f h = none_of f a.claims (All-weaker (λ (c : Claim). ClaimFits s c.node c.under c.phase) (λ (c : Claim). f c ≡ 0) (λ (c : Claim). h c.node c.under c.phase) a.claims l.held.claims)
+  all_far : (f : Claim → ℕ) → ((node : ℕ) (under : Option ℕ) (phase : Phase) → ClaimFits s node under phase →
+      f (record { node = node; under = under; phase = phase }) ≡ 0) → sum_by f a.claims ≡ 0
+  all_far f h = sum_by-none f a.claims
+      (All-weaker (λ (c : Claim). ClaimFits s c.node c.under c.phase) (λ (c : Claim). f c ≡ 0) (λ (c : Claim). h c.node c.under c.phase)
+      a.claims l.held.claims)
 
   -- no child stood below the number
   asks_none : sum_by (child_count k) a.rows ≡ 0
-  asks_none = none_of (child_count k) a.rows (All-from_get_or (λ (r : Row). child_count k r ≡ 0) a.rows blank (λ j h. ⊎_elim
-      (λ (y : (s j).is_open && is_at (s j).parent k ≡ true). let q = and_parts (s j).is_open (is_at (s j).parent k) y in absurd (unmade s k k (tree.made_parent j k (at_some (s j).parent k q.1)) o.fresh refl))
+  asks_none = sum_by-none (child_count k) a.rows (All-from_get_or (λ (r : Row). child_count k r ≡ 0) a.rows blank (λ j h. ⊎_elim
+      (λ (y : (s j).is_open && is_at (s j).parent k ≡ true). let q = and_parts (s j).is_open (is_at (s j).parent k) y in
+      absurd (unmade s k k (tree.made_parent j k (at_some (s j).parent k q.1)) o.fresh refl))
       (λ (n : (s j).is_open && is_at (s j).parent k ≡ false). rw n refl)
       (cases_Bool ((s j).is_open && is_at (s j).parent k))))
 
@@ -204,13 +217,20 @@ module _ (a : Account) (l : WholeLaw a) (i reservation limit k : ℕ) (b : Accou
       let mine : own_charge n d ≡ 0 = owned n in
       ⊎_elim
       (λ e.
-      let f₁ : sum_by (λ c. pending_addition n c.phase) a.claims ≡ 0 = subst (λ (x : ℕ). sum_by (λ c. pending_addition x c.phase) a.claims ≡ 0) (sym e) (all_far (λ (c : Claim). pending_addition k c.phase) (λ x u ph f. (far s tree k k_closed x u ph f).0)) in
-      let f₂ : sum_by (own_charge n) a.claims ≡ 0 = subst (λ (x : ℕ). sum_by (own_charge x) a.claims ≡ 0) (sym e) (all_far (own_charge k) (λ x u ph f. (far s tree k k_closed x u ph f).2)) in
-      let f₃ : sum_by (λ c. pending_subtraction n c.phase) a.claims ≡ 0 = subst (λ (x : ℕ). sum_by (λ c. pending_subtraction x c.phase) a.claims ≡ 0) (sym e) (all_far (λ (c : Claim). pending_subtraction k c.phase) (λ x u ph f. (far s tree k k_closed x u ph f).1)) in
+      let f₁ : sum_by (λ c. pending_addition n c.phase) a.claims ≡ 0 =
+      subst (λ (x : ℕ). sum_by (λ c. pending_addition x c.phase) a.claims ≡ 0) (sym e)
+      (all_far (λ (c : Claim). pending_addition k c.phase) (λ x u ph f. (far s tree k k_closed x u ph f).0)) in
+      let f₂ : sum_by (own_charge n) a.claims ≡ 0 =
+      subst (λ (x : ℕ). sum_by (own_charge x) a.claims ≡ 0) (sym e)
+      (all_far (own_charge k) (λ x u ph f. (far s tree k k_closed x u ph f).2)) in
+      let f₃ : sum_by (λ c. pending_subtraction n c.phase) a.claims ≡ 0 =
+      subst (λ (x : ℕ). sum_by (λ c. pending_subtraction x c.phase) a.claims ≡ 0) (sym e)
+      (all_far (λ (c : Claim). pending_subtraction k c.phase) (λ x u ph f. (far s tree k k_closed x u ph f).1)) in
       let f₄ : sum_by (child_count n) a.rows ≡ 0 = subst (λ (x : ℕ). sum_by (child_count x) a.rows ≡ 0) (sym e) asks_none in
       let z : child_count n r' ≡ 0 = off p n (max 0 reservation) (λ q. (let g = o.greater in omega arith)) in
       let h : (row a.rows n).held ≡ 0 = l.held.empty n (ap (λ (x : ℕ). (s x).is_open) e ∙ k_closed) in
-      let h' : (row after.rows n).held ≡ 0 = ap (λ (x : ℕ). (row after.rows x).held) e ∙ ap (λ (r : Row). r.held) (get_or-set_same a.rows k r' blank o.room) in
+      let h' : (row after.rows n).held ≡ 0 = ap (λ (x : ℕ). (row after.rows x).held) e
+      ∙ ap (λ (r : Row). r.held) (get_or-set_same a.rows k r' blank o.room) in
       omega arith)
       (λ ne.
       let b = l.held.balance n (sym (ap (λ (x : Shape). x.is_open) (there_old n ne)) ∙ opened) in
@@ -223,10 +243,11 @@ module _ (a : Account) (l : WholeLaw a) (i reservation limit k : ℕ) (b : Accou
       asks_closed n r c = rw c refl
 
       owned : (n : ℕ) → own_charge n d ≡ 0
-      owned n = elim (p == n) as (λ b. ◌≡◌ {A = ℕ} (cond (b && false) (charged (claim a i).phase) 0) 0) [ true ↦ refl | false ↦ refl ]
+      owned n = cond-and_false (p == n) (charged (claim a i).phase)
 
       moved_to : (n : ℕ) → own_charge n (claim a i) ≡ child_count n r'
-      moved_to n = rw (amount.0, amount.1) (elim (p == n) as (λ b. cond (b && true) reservation 0 ≡ cond b (max 0 reservation) 0) [ true ↦ omega arith | false ↦ refl ])
+      moved_to n = rw (amount.0, amount.1)
+          (elim (p == n) as (λ b. cond (b && true) reservation 0 ≡ cond b (max 0 reservation) 0) [ true ↦ omega arith | false ↦ refl ])
 
   -- it keeps the law of the held numbers
   opened_held : HeldLaw after
@@ -235,9 +256,11 @@ module _ (a : Account) (l : WholeLaw a) (i reservation limit k : ℕ) (b : Accou
     balance = new_balance;
     empty = λ n. each_row (λ (r : Row). r.shape.is_open ≡ false → r.held ≡ 0) a.rows k n r' o.room (λ c. refl) (l.held.empty n);
     claims = All-set (λ (c : Claim). ClaimFits t c.node c.under c.phase) a.claims i d
-        (payer_fits s t reservation k p (claim a i).under (claim a i).phase o.pays fits (still_open s t tree grows p p_open)
+        (payer_fits s t reservation k p (claim a i).under (claim a i).phase o.pays (its_fits a l.held i o.there)
+        (still_open s t tree grows p p_open)
         (ap (λ (x : Shape). x.is_open) here_new) (ap (λ (x : Shape). x.parent) here_new) (ap (λ (x : Shape). x.reservation) here_new))
-        (All-weaker (λ (c : Claim). ClaimFits s c.node c.under c.phase) (λ (c : Claim). ClaimFits t c.node c.under c.phase) (λ (c : Claim). still_fits s t tree grows c.node c.under c.phase) a.claims l.held.claims);
+        (All-weaker (λ (c : Claim). ClaimFits s c.node c.under c.phase) (λ (c : Claim). ClaimFits t c.node c.under c.phase)
+        (λ (c : Claim). still_fits s t tree grows c.node c.under c.phase) a.claims l.held.claims);
   }
 
   -- it keeps the counts of uses
@@ -271,4 +294,5 @@ module _ (a : Account) (l : WholeLaw a) (i reservation limit k : ℕ) (b : Accou
 
   -- the making of a child keeps the law
   pub opens_lawful : WholeLaw b
-  opens_lawful = subst WholeLaw (same_account after b (sym o.rows) (sym o.claims)) (record { held = opened_held; uses = opened_uses; backing = opened_backing })
+  opens_lawful = subst WholeLaw (same_account after b (sym o.rows) (sym o.claims))
+      (record { held = opened_held; uses = opened_uses; backing = opened_backing })

@@ -1,28 +1,25 @@
 -- A machine opens in a lawful state.
-use Rattle.std.proofs.Common.{zero, suc, ◌≡◌, ℕ, ◌+◌, ◌*◌, ◌^◌, ◌<◌, ◌≤◌, Bool, true, false, cond, ◌&&◌, List, ◌∷◌, map, replicate, set, Some, None, sum_by, nat_lt, ◌==◌, ◌⊎◌, inl, inr, arith, refl, sym, ap, ◌∙◌, subst, ⊎_elim, lt-ltb}
+use Rattle.std.proofs.Common.{zero, suc, ◌≡◌, ℕ, ◌+◌, ◌*◌, ◌^◌, ◌<◌, ◌≤◌, true, ◌&&◌, List, ◌∷◌, map, replicate, set, Some, None, sum_by, nat_lt, ◌==◌, ◌⊎◌, inl, inr, arith, refl, sym, ap, ◌∙◌, subst, ⊎_elim, lt-ltb}
 use Rattle.std.proofs.lemmas.Bool.{true≢false, cases_lt, le-ltb}
 use Rattle.std.proofs.lemmas.List.{get_or-replicate, length-replicate}
 use Rattle.std.proofs.lemmas.List.Elements.{All-cons, All-replicate}
 use Rattle.std.proofs.lemmas.List.Sums.{sum_by-cons}
 use Rattle.std.proofs.lemmas.List.Folds.{sum_by-replicate}
 use Rattle.std.proofs.Math.ListN.{get_or-eq_default}
+use Rattle.mem_num.specs.declared.bounds.TheConstants.{MAX_RESERVATION, MOST_ALLOCATORS}
 use Rattle.acct_core.specs.declared.row.Row.{Row}
-use Rattle.acct_core.specs.declared.claim.Claim.{Claim}
-use Rattle.acct_core.specs.declared.account.Account.{Account}
+use Rattle.acct_core.specs.Claims.{Claim, Account, account, no_claim, own_charge, use_count, backing_count}
 use Rattle.acct_core.specs.declared.slot.Slot.{Slot}
 use Rattle.acct_core.specs.Rows.{blank, row, shapes}
 use Rattle.acct_core.specs.NodeTree.{IsOpen, IsNodeTree}
 use Rattle.acct_core.specs.Phases.{size_of, pending_addition, pending_subtraction}
-use Rattle.acct_core.specs.Claims.{account, no_claim, own_charge, use_count, backing_count}
 use Rattle.acct_core.specs.Balance.{child_count, IsBalancedAt}
 use Rattle.acct_core.specs.Lawful.{IsInTime, HasNextLevel, KeepsLimits, Backs, backing_needed, IsLawfulAccount}
-use Rattle.acct_core.specs.Effects.{largest_request}
-use Rattle.acct_core.specs.State.{made_count, most_nodes, IsLawfulState}
+use Rattle.acct_core.specs.State.{made_count, IsLawfulMachine, state_of}
 use Rattle.acct_core.specs.Slots.{claim_of}
-use Rattle.acct_core.specs.Opening.{root_row, opening_rows, opening}
-use Rattle.acct_core.proofs.SumLemmas.{zero_cond}
+use Rattle.acct_core.specs.Opening.{opening_row, opening_rows, opening}
+use Rattle.acct_core.proofs.SumLemmas.{zero_cond, cond-and_false}
 use Rattle.acct_core.proofs.StateLemmas.{made_one}
-use Rattle.acct_core.proofs.CoreLemmas.{state_of}
 
 -- a weight that is 0 at a free claim is 0 over free claims
 free_sum : (f : Claim → ℕ) (count : ℕ) → f no_claim ≡ 0 → sum_by f (replicate count no_claim) ≡ 0
@@ -31,7 +28,7 @@ free_sum f count e = sum_by-replicate f count no_claim ∙ ap (λ (x : ℕ). cou
 module _ (limit numbers count : ℕ) where
   -- the root and blanks
   abbrev rows : List Row
-  rows = root_row limit ∷ replicate numbers blank
+  rows = opening_row limit ∷ replicate numbers blank
 
   -- free claims
   abbrev claims : List Claim
@@ -43,10 +40,13 @@ module _ (limit numbers count : ℕ) where
 
   -- each of the others is blank
   blank_at : (n : ℕ) → row (replicate numbers blank) n ≡ blank
-  blank_at n = ⊎_elim (λ (h : n < numbers). get_or-replicate numbers n blank blank h) (λ (h : numbers ≤ n). get_or-eq_default (replicate numbers blank) blank (let l = length-replicate numbers blank in omega arith)) (cases_lt n numbers)
+  blank_at n = ⊎_elim
+      (λ (h : n < numbers). get_or-replicate numbers n blank blank h)
+      (λ (h : numbers ≤ n). get_or-eq_default (replicate numbers blank) blank (let l = length-replicate numbers blank in omega arith))
+      (cases_lt n numbers)
 
   -- each row is the root's or blank
-  each : (n : ℕ) → ((n ≡ 0) × (row rows n ≡ root_row limit)) ⊎ ((1 ≤ n) × (row rows n ≡ blank))
+  each : (n : ℕ) → ((n ≡ 0) × (row rows n ≡ opening_row limit)) ⊎ ((1 ≤ n) × (row rows n ≡ blank))
   each zero = inl (refl, refl)
   each (suc n) = inr (omega arith, blank_at n)
 
@@ -73,7 +73,7 @@ module _ (limit numbers count : ℕ) where
   -- no child counts for anything
   no_children : (n : ℕ) → sum_by (child_count n) rows ≡ 0
   no_children n =
-      let e = sum_by-cons (child_count n) (root_row limit) (replicate numbers blank) in
+      let e = sum_by-cons (child_count n) (opening_row limit) (replicate numbers blank) in
       let f = sum_by-replicate (child_count n) numbers blank in
       omega arith
 
@@ -101,26 +101,25 @@ module _ (limit numbers count : ℕ) where
       let e₄ = no_children n in
       omega arith
 
-  -- a free claim uses nothing
-  free_use : (b : Bool) → ◌≡◌ {A = ℕ} (cond (b && false) 1 0) 0
-  free_use true = refl
-  free_use false = refl
-
   -- the account is lawful
   opening_account : IsLawfulAccount a
   opening_account = record {
     tree = opening_tree;
     balance = record { opened = λ n o. opening_balance n; closed = λ n c. held_nothing n };
-    use_counts = λ n. no_uses n ∙ sym (free_sum (use_count n) count (free_use (0 == n)));
+    use_counts = λ n. no_uses n ∙ sym (free_sum (use_count n) count (cond-and_false (0 == n) 1));
     late_entries = All-replicate (λ (c : Claim). IsInTime (shapes rows) c.node c.phase) count no_claim tt;
     next_levels = All-replicate (λ (c : Claim). HasNextLevel (shapes rows) c.node c.phase) count no_claim tt;
-    backing = record { one_claim = λ n. free_sum (backing_count n) count refl ∙ sym (needs_none n); paid = All-replicate (λ (c : Claim). Backs (shapes rows) c.node c.under c.phase) count no_claim tt };
+    backing = record {
+      one_claim = λ n. free_sum (backing_count n) count refl ∙ sym (needs_none n);
+      paid = All-replicate (λ (c : Claim). Backs (shapes rows) c.node c.under c.phase) count no_claim tt;
+    };
     limit_steps = All-replicate (λ (c : Claim). KeepsLimits c.phase) count no_claim tt;
   }
 
   -- one allocator was made
-  one_made : made_count rows ≡ 1
-  one_made = let e = sum_by-cons made_one (root_row limit) (replicate numbers blank) in let f = sum_by-replicate made_one numbers blank in omega arith
+  pub one_made : made_count rows ≡ 1
+  one_made = let e = sum_by-cons made_one (opening_row limit) (replicate numbers blank) in
+      let f = sum_by-replicate made_one numbers blank in omega arith
 
   -- it has the first number
   opening_numbers : (n : ℕ) → (shapes rows n).made ≡ nat_lt n (made_count rows)
@@ -130,40 +129,41 @@ module _ (limit numbers count : ℕ) where
       (each n)
 
   -- the state is lawful
-  pub opening_state : (bytes : ℕ) → numbers + 1 ≡ most_nodes → count < 2 ^ 32 → bytes ≤ 2 ^ 61 → IsLawfulState (record { account = a; bytes = bytes })
+  pub opening_state : (bytes : ℕ) → numbers + 1 ≡ MOST_ALLOCATORS → count < 2 ^ 32 → bytes ≤ 2 ^ 61 →
+      IsLawfulMachine (record { account = a; bytes = bytes })
   opening_state bytes e few fits = record {
     lawful = opening_account;
     wide = (let l = length-replicate numbers blank in omega arith);
     numbered = opening_numbers;
     few = (let l = length-replicate count no_claim in omega arith);
-    reservations = All-cons (λ (r : Row). r.shape.reservation ≤ largest_request) (root_row limit) (replicate numbers blank) (omega arith) (All-replicate (λ (r : Row). r.shape.reservation ≤ largest_request) numbers blank (omega arith));
-    sizes = All-replicate (λ (c : Claim). size_of c.phase ≤ largest_request) count no_claim (omega arith);
+    reservations = All-cons (λ (r : Row). r.shape.reservation ≤ MAX_RESERVATION) (opening_row limit) (replicate numbers blank)
+        (omega arith) (All-replicate (λ (r : Row). r.shape.reservation ≤ MAX_RESERVATION) numbers blank (omega arith));
+    sizes = All-replicate (λ (c : Claim). size_of c.phase ≤ MAX_RESERVATION) count no_claim (omega arith);
     budget = (let z = free_sum (λ (c : Claim). size_of c.phase) count refl in omega arith);
   }
 
-  -- one number was given
-  pub opening_made : made_count rows ≡ 1
-  opening_made = one_made
-
 -- what is opened is lawful
-pub opening_lawful : (limit count bytes : ℕ) → count < 2 ^ 32 → bytes ≤ 2 ^ 61 → IsLawfulState (opening limit count bytes) × (made_count (opening_rows limit) ≡ 1)
+pub opening_lawful : (limit count bytes : ℕ) → count < 2 ^ 32 → bytes ≤ 2 ^ 61 → IsLawfulMachine (opening limit count bytes)
+    × (made_count (opening_rows limit) ≡ 1)
 unfolding opening_rows
-opening_lawful limit count bytes few fits = (opening_state limit 63 count bytes (omega arith) few fits, opening_made limit 63 count)
+opening_lawful limit count bytes few fits = (opening_state limit 63 count bytes (omega arith) few fits, one_made limit 63 count)
 
 -- the same of rows and slots that are those of an opening
-pub opened_lawful : (limit count bytes : ℕ) (its_rows : List Row) (slots : List Slot) → its_rows ≡ opening_rows limit → map claim_of slots ≡ replicate count no_claim → count < 2 ^ 32 → bytes ≤ 2 ^ 61 →
-    IsLawfulState (state_of its_rows slots bytes) × (1 ≡ made_count its_rows)
+pub opened_lawful : (limit count bytes : ℕ) (its_rows : List Row) (slots : List Slot) → its_rows ≡ opening_rows limit →
+    map claim_of slots ≡ replicate count no_claim → count < 2 ^ 32 → bytes ≤ 2 ^ 61 →
+    IsLawfulMachine (state_of its_rows slots bytes) × (1 ≡ made_count its_rows)
 opened_lawful limit count bytes its_rows slots e f few fits =
     let l = opening_lawful limit count bytes few fits in (
-      subst IsLawfulState (λ j. record { account = record { rows = sym e j; claims = sym f j }; bytes = bytes }) l.0,
+      subst IsLawfulMachine (λ j. record { account = record { rows = sym e j; claims = sym f j }; bytes = bytes }) l.0,
       sym l.1 ∙ ap made_count (sym e),
     )
 
 -- and the root and blanks are that many rows
-pub opening_rows-set : (limit : ℕ) (its_rows : List Row) (root : Row) → its_rows ≡ replicate 64 blank → root ≡ root_row limit → set its_rows 0 root ≡ opening_rows limit
+pub opening_rows-set : (limit : ℕ) (its_rows : List Row) (root : Row) → its_rows ≡ replicate 64 blank → root ≡ opening_row limit →
+    set its_rows 0 root ≡ opening_rows limit
 unfolding opening_rows
 opening_rows-set limit its_rows root e f = rw (e, f) refl
 
 -- a machine opens in a lawful state
-pub opening_is_lawful : (limit count bytes : ℕ) → count < 2 ^ 32 → bytes ≤ 2 ^ 61 → IsLawfulState (opening limit count bytes)
+pub opening_is_lawful : (limit count bytes : ℕ) → count < 2 ^ 32 → bytes ≤ 2 ^ 61 → IsLawfulMachine (opening limit count bytes)
 opening_is_lawful limit count bytes few fits = (opening_lawful limit count bytes few fits).0

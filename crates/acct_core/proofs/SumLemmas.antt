@@ -2,7 +2,7 @@
 use Rattle.std.proofs.Common.{Bool, true, false, cond, ◌&&◌, map, ◌==◌, ◌≢◌, ne_eqb, ⊎_elim, zero, suc, ◌≡◌, ℕ, ◌+◌, ◌<◌, ◌≤◌, List, [], ◌∷◌, length, get_or, All, sum_by, arith, refl, ap, ◌∙◌}
 use Rattle.std.proofs.lemmas.Bool.{cases_eq}
 use Rattle.std.proofs.lemmas.List.Sums.{sum_by-cons}
-use Rattle.std.proofs.lemmas.List.Elements.{All-weaker, All-head, All-tail}
+use Rattle.std.proofs.lemmas.List.Elements.{All-head, All-tail}
 
 -- the sum of the terms below n
 abbrev pub sum_to : ℕ → (ℕ → ℕ) → ℕ
@@ -50,19 +50,21 @@ module _ {X : Type 0} where
   sum_by-sum_to f (x ∷ xs) d = sum_by-cons f x xs ∙ ap (λ (n : ℕ). f x + n) (sum_by-sum_to f xs d)
 
   -- a sum of zeros
-  pub sum_by-none : (xs : List X) → sum_by (λ (x : X). 0) xs ≡ 0
-  sum_by-none [] = refl
-  sum_by-none (x ∷ xs) = sum_by-cons (λ (y : X). 0) x xs ∙ (let a = sum_by-none xs in omega arith)
+  pub sum_by-zeros : (xs : List X) → sum_by (λ (x : X). 0) xs ≡ 0
+  sum_by-zeros [] = refl
+  sum_by-zeros (x ∷ xs) = sum_by-cons (λ (y : X). 0) x xs ∙ (let a = sum_by-zeros xs in omega arith)
 
   -- a sum of sums
   pub sum_by-add : (f g : X → ℕ) (xs : List X) → sum_by (λ x. f x + g x) xs ≡ sum_by f xs + sum_by g xs
   sum_by-add f g [] = omega arith
-  sum_by-add f g (x ∷ xs) = let a = sum_by-cons (λ (y : X). f y + g y) x xs in let b = sum_by-cons f x xs in let c = sum_by-cons g x xs in let d = sum_by-add f g xs in omega arith
+  sum_by-add f g (x ∷ xs) = let a = sum_by-cons (λ (y : X). f y + g y) x xs in let b = sum_by-cons f x xs in let c = sum_by-cons g x xs in
+      let d = sum_by-add f g xs in omega arith
 
   -- two sums may be taken in either order
   pub exchange : (f : ℕ → X → ℕ) (n : ℕ) (xs : List X) → sum_by (λ x. sum_to n (λ j. f j x)) xs ≡ sum_to n (λ j. sum_by (f j) xs)
-  exchange f zero xs = sum_by-none xs
-  exchange f (suc n) xs = sum_by-add (f 0) (λ (x : X). sum_to n (λ j. f (suc j) x)) xs ∙ ap (λ (m : ℕ). sum_by (f 0) xs + m) (exchange (λ j. f (suc j)) n xs)
+  exchange f zero xs = sum_by-zeros xs
+  exchange f (suc n) xs = sum_by-add (f 0) (λ (x : X). sum_to n (λ j. f (suc j) x)) xs
+      ∙ ap (λ (m : ℕ). sum_by (f 0) xs + m) (exchange (λ j. f (suc j)) n xs)
 
   -- larger terms have a larger sum, where each is that of an element with some fact
   pub sum_by-le_each : (f g : X → ℕ) (xs : List X) → All (λ x. f x ≤ g x) xs → sum_by f xs ≤ sum_by g xs
@@ -72,10 +74,6 @@ module _ {X : Type 0} where
       let p : f x ≤ g x = All-head (λ (y : X). f y ≤ g y) x xs h in
       let q = sum_by-le_each f g xs (All-tail (λ (y : X). f y ≤ g y) x xs h) in
       omega arith
-
--- a sum of which each term is 0
-pub none_of : {X : Type 0} (f : X → ℕ) (xs : List X) → All (λ x. f x ≡ 0) xs → sum_by f xs ≡ 0
-none_of {X} f xs h = let z = sum_by-none xs in let l = sum_by-le_each f (λ (x : X). 0) xs (All-weaker (λ (x : X). f x ≡ 0) (λ (x : X). f x ≤ 0) (λ (x : X) (e : f x ≡ 0). omega arith) xs h) in omega arith
 
 -- a sum above 0 has a term above 0
 pub some_term : {X : Type 0} (f : X → ℕ) (xs : List X) (d : X) → 0 < sum_by f xs → (i : ℕ) × (i < length xs) × (0 < f (get_or xs i d))
@@ -90,6 +88,11 @@ pub zero_cond : (b : Bool) → ◌≡◌ {A = ℕ} (cond b 0 0) 0
 zero_cond true = refl
 zero_cond false = refl
 
+-- a weight behind a test that fails
+pub cond-and_false : (b : Bool) (x : ℕ) → cond (b && false) x 0 ≡ 0
+cond-and_false true x = refl
+cond-and_false false x = refl
+
 -- a weight at one number is none at another
 pub off : (m k x : ℕ) → m ≢ k → cond (m == k) x 0 ≡ 0
 off m k x ne = rw (ne_eqb m k ne) refl
@@ -101,4 +104,5 @@ off_and m k x b ne = rw (ne_eqb m k ne) refl
 -- a sum over what a list is mapped to
 pub sum_by-map : {X Y : Type 0} (f : Y → ℕ) (g : X → Y) (xs : List X) → sum_by f (map g xs) ≡ sum_by (λ x. f (g x)) xs
 sum_by-map f g [] = refl
-sum_by-map {X} f g (x ∷ xs) = let a = sum_by-cons f (g x) (map g xs) in let b = sum_by-cons (λ (y : X). f (g y)) x xs in let c = sum_by-map f g xs in omega arith
+sum_by-map {X} f g (x ∷ xs) = let a = sum_by-cons f (g x) (map g xs) in let b = sum_by-cons (λ (y : X). f (g y)) x xs in
+    let c = sum_by-map f g xs in omega arith

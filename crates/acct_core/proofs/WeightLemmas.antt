@@ -2,7 +2,7 @@
 use Rattle.std.proofs.Common.{◌≡◌, ◌+◌, ◌≤◌, List, [], ◌∷◌, ◌++◌, refl, arith, sum_by, Bool, true, false, cond, ◌||◌}
 use Rattle.std.proofs.lemmas.Bool.{true≢false}
 use Rattle.std.proofs.lemmas.List.Sums.{sum_by-cons}
-use Rattle.acct_core.specs.declared.claim.Claim.{Claim}
+use Rattle.acct_core.specs.Claims.{Claim}
 use Rattle.acct_core.specs.Weights.{in_root, has_held, stake}
 use Rattle.acct_core.specs.Phases.{is_held}
 
@@ -17,7 +17,8 @@ stake_le (c ∷ claims) =
     held true = omega arith
     held false = omega arith
 
-    pick : (b : Bool) → cond b (stake claims) (cond (is_held c.phase) (in_root c.phase) 0) ≤ stake claims + cond (is_held c.phase) (in_root c.phase) 0
+    pick : (b : Bool) → cond b (stake claims) (cond (is_held c.phase) (in_root c.phase) 0)
+        ≤ stake claims + cond (is_held c.phase) (in_root c.phase) 0
     pick true = omega arith
     pick false = omega arith
 
@@ -40,13 +41,14 @@ stake-none (x ∷ xs) h = both (is_held x.phase) (has_held xs) h
     both false true e = absurd (true≢false e)
     both false false e = refl
 
--- claims of two seats that are joined have no greater stake than before
+-- two lists of claims together have no greater stake than each by itself
 pub stake_append : (xs ys : List Claim) → stake (xs ++ ys) ≤ stake xs + stake ys
 stake_append [] ys = omega arith
 stake_append (x ∷ xs) ys = rw (has_held-append xs ys) (let r = stake_append xs ys in cases (has_held xs) (has_held ys) refl refl r)
   where
     cases : (a b : Bool) → has_held xs ≡ a → has_held ys ≡ b → stake (xs ++ ys) ≤ stake xs + stake ys →
-        cond (a || b) (stake (xs ++ ys)) (cond (is_held x.phase) (in_root x.phase) 0) ≤ cond a (stake xs) (cond (is_held x.phase) (in_root x.phase) 0) + stake ys
+        cond (a || b) (stake (xs ++ ys)) (cond (is_held x.phase) (in_root x.phase) 0)
+        ≤ cond a (stake xs) (cond (is_held x.phase) (in_root x.phase) 0) + stake ys
     cases true b e f r = r
     cases false true e f r = let z = stake-none xs e in omega arith
     cases false false e f r = omega arith

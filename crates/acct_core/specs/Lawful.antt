@@ -1,14 +1,11 @@
 -- When an account is lawful.
-use Rattle.std.specs.Prelude.{◌≡◌, ℕ, ◌≤◌, ◌&&◌, true, false, cond, is_some, sum_by, Some, None}
-use Rattle.std.proofs.Common.{Option, All}
+use Rattle.std.specs.Prelude.{◌≡◌, ℕ, ◌≤◌, ◌&&◌, true, false, if◌then◌else◌, is_some, sum_by, Option, Some, None, All}
 use Rattle.acct_core.specs.declared.shape.Shape.{Shape}
-use Rattle.acct_core.specs.declared.account.Account.{Account}
-use Rattle.acct_core.specs.declared.phase.Phase.{Phase}
-use Rattle.acct_core.specs.declared.phase.Phase.TheVariants.{Free, In, Up, Held, Failed, Down, Bounced}
 use Rattle.acct_core.specs.Rows.{row, shapes}
 use Rattle.acct_core.specs.NodeTree.{IsOpen, Reaches, IsNodeTree}
-use Rattle.acct_core.specs.Phases.{any_past}
-use Rattle.acct_core.specs.Claims.{use_count, backing_count}
+use Rattle.acct_core.specs.Phases.{Phase, any_past}
+use Rattle.acct_core.specs.Phases.Phase.{Free, In, Up, Held, Failed, Down, Bounced}
+use Rattle.acct_core.specs.Claims.{Account, use_count, backing_count}
 use Rattle.acct_core.specs.Balance.{IsBalanced}
 
 -- a free claim is nowhere, a bounced one is at a node that was made and closed, and every other one is at an open node
@@ -44,44 +41,44 @@ Backs shape node (Some child) phase = IsOpen shape child × ((shape child).paren
 
 -- one for an open node that has a parent
 abbrev pub backing_needed : Shape → ℕ
-backing_needed s = cond (s.is_open && is_some s.parent) 1 0
+backing_needed shape = if shape.is_open && is_some shape.parent then 1 else 0
 
 -- each open node but the root stands on exactly one claim, at its parent, that pays for its reservation
-pub record IsBacked (a : Account) : Type 0 where
-  pub one_claim : (n : ℕ) → sum_by (backing_count n) a.claims ≡ backing_needed (shapes a.rows n)
-  pub paid : All (λ c. Backs (shapes a.rows) c.node c.under c.phase) a.claims
+pub record IsBacked (account : Account) : Type 0 where
+  pub one_claim : (node : ℕ) → sum_by (backing_count node) account.claims ≡ backing_needed (shapes account.rows node)
+  pub paid : All (λ claim. Backs (shapes account.rows) claim.node claim.under claim.phase) account.claims
 
 -- the part of the law that speaks of held numbers alone; a tree that is fixed from the start, without uses or backing claims, keeps it
-pub record IsBalancedAccount (a : Account) : Type 0 where
-  pub tree : IsNodeTree (shapes a.rows)
-  pub balance : IsBalanced a
-  pub next_levels : All (λ c. HasNextLevel (shapes a.rows) c.node c.phase) a.claims
-  pub limit_steps : All (λ c. KeepsLimits c.phase) a.claims
+pub record IsBalancedAccount (account : Account) : Type 0 where
+  pub tree : IsNodeTree (shapes account.rows)
+  pub balance : IsBalanced account
+  pub next_levels : All (λ claim. HasNextLevel (shapes account.rows) claim.node claim.phase) account.claims
+  pub limit_steps : All (λ claim. KeepsLimits claim.phase) account.claims
 
 -- the law of the accounts, whatever calls are in flight
-pub record IsLawfulAccount (a : Account) : Type 0 where
+pub record IsLawfulAccount (account : Account) : Type 0 where
   -- numbers, parents, and which nodes are open
-  pub tree : IsNodeTree (shapes a.rows)
+  pub tree : IsNodeTree (shapes account.rows)
   -- held is what is charged and what open children count for, up to what is still pending
-  pub balance : IsBalanced a
+  pub balance : IsBalanced account
   -- the uses of a node are the claims at it that aren't free
-  pub use_counts : (n : ℕ) → (row a.rows n).uses ≡ sum_by (use_count n) a.claims
+  pub use_counts : (node : ℕ) → (row account.rows node).uses ≡ sum_by (use_count node) account.claims
   -- an entry that came too late is turned away, and no other claim is at a closed node
-  pub late_entries : All (λ c. IsInTime (shapes a.rows) c.node c.phase) a.claims
+  pub late_entries : All (λ claim. IsInTime (shapes account.rows) claim.node claim.phase) account.claims
   -- next levels are on the way to the root, with amounts within the size
-  pub next_levels : All (λ c. HasNextLevel (shapes a.rows) c.node c.phase) a.claims
+  pub next_levels : All (λ claim. HasNextLevel (shapes account.rows) claim.node claim.phase) account.claims
   -- each open node but the root stands on one claim, which pays for its reservation
-  pub backing : IsBacked a
+  pub backing : IsBacked account
   -- who fails went past a limit, and who is held and not forced did not
-  pub limit_steps : All (λ c. KeepsLimits c.phase) a.claims
+  pub limit_steps : All (λ claim. KeepsLimits claim.phase) account.claims
 
 -- a tree that is fixed: every node is open, claims that are not free are at nodes, and no child stands on a claim
-pub record IsFixedTree (a : Account) : Type 0 where
-  pub opened : (n : ℕ) → (shapes a.rows n).made ≡ true → IsOpen (shapes a.rows) n
-  pub in_time : All (λ c. IsInTime (shapes a.rows) c.node c.phase) a.claims
-  pub bare : All (λ c. c.under ≡ None) a.claims
+pub record IsFixedTree (account : Account) : Type 0 where
+  pub opened : (node : ℕ) → (shapes account.rows node).made ≡ true → IsOpen (shapes account.rows) node
+  pub in_time : All (λ claim. IsInTime (shapes account.rows) claim.node claim.phase) account.claims
+  pub bare : All (λ claim. claim.under ≡ None) account.claims
 
 -- the law of a fixed tree
-pub record IsLawfulFixedTree (a : Account) : Type 0 where
-  pub fixed : IsFixedTree a
-  pub balanced : IsBalancedAccount a
+pub record IsLawfulFixedTree (account : Account) : Type 0 where
+  pub fixed : IsFixedTree account
+  pub balanced : IsBalancedAccount account

@@ -1,3 +1,4 @@
+-- The definitions of this crate, those first that others stand on.
 pub mod Rows
 pub mod NodeTree
 pub mod Phases

@@ -1,15 +1,22 @@
--- What a phase of a claim weighs at its node and at the levels above.
-use Rattle.std.specs.Prelude.{ℕ, ◌+◌, Bool, true, false, cond, List, ◌==◌, nat_lt}
+-- Where a claim stands, and what it weighs at its node and at the levels above.
+use Rattle.std.specs.Prelude.{ℕ, ◌+◌, Bool, true, false, if◌then◌else◌, List, ◌==◌, nat_lt, Option, Some, None}
 use Rattle.std.specs.List.{list_any}
 use Rattle.acct_core.specs.declared.level_step.LevelStep.{LevelStep}
-use Rattle.acct_core.specs.declared.phase.Phase.{Phase}
-use Rattle.acct_core.specs.declared.phase.Phase.TheVariants.{Free, In, Up, Held, Failed, Down, Bounced}
-use Rattle.std.proofs.Common.{Option, Some, None}
 
--- a level and an amount, where n is that level
+-- the phase of a claim; `next` is the level that is to be changed next, `pending` the amount, in bytes, and `steps` what was added so far
+pub data Phase : Type 0 where
+  Free : Phase
+  In : Phase
+  Up : (size next pending : ℕ) → (forced : Bool) → (steps : List LevelStep) → Phase
+  Held : (size : ℕ) → (forced : Bool) → (steps : List LevelStep) → Phase
+  Failed : (size : ℕ) → (forced : Bool) → (steps : List LevelStep) → Phase
+  Down : (size next pending : ℕ) → Phase
+  Bounced : Phase
+
+-- a level and an amount, where this node is that level
 abbrev pub pair_at : ℕ → Option (ℕ × ℕ) → ℕ
-pair_at n None = 0
-pair_at n (Some pair) = cond (pair.0 == n) pair.1 0
+pair_at node None = 0
+pair_at node (Some pair) = if pair.0 == node then pair.1 else 0
 
 -- the size that a claim has charged at its node
 abbrev pub charged : Phase → ℕ
@@ -26,15 +33,15 @@ size_of (Failed size forced steps) = size
 size_of (Down size next pending) = size
 size_of _ = 0
 
--- what a claim has still to add at n
+-- what a claim has still to add at a node
 abbrev pub pending_addition : ℕ → Phase → ℕ
-pending_addition n (Up size next pending forced steps) = pair_at n (Some (next, pending))
-pending_addition n _ = 0
+pending_addition node (Up size next pending forced steps) = pair_at node (Some (next, pending))
+pending_addition node _ = 0
 
--- what a claim has still to subtract at n
+-- what a claim has still to subtract at a node
 abbrev pub pending_subtraction : ℕ → Phase → ℕ
-pending_subtraction n (Down size next pending) = pair_at n (Some (next, pending))
-pending_subtraction n _ = 0
+pending_subtraction node (Down size next pending) = pair_at node (Some (next, pending))
+pending_subtraction node _ = 0
 
 -- whether a step took its level past the limit
 abbrev pub is_past : LevelStep → Bool
@@ -44,7 +51,7 @@ is_past step = nat_lt step.limit (step.old + step.amount)
 abbrev pub any_past : List LevelStep → Bool
 any_past steps = list_any is_past steps
 
--- in which phase a claim is
+-- whether a claim is free
 abbrev pub is_free : Phase → Bool
 is_free Free = true
 is_free _ = false

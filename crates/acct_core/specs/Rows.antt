@@ -1,6 +1,5 @@
--- The rows of an account: the allocator of number n is the row at n.
-use Rattle.std.specs.Prelude.{ℕ, Bool, false, ◌==◌, List, slice_index_or}
-use Rattle.std.proofs.Common.{Option, Some, None}
+-- The rows of an account: the allocator of a number is the row at that place.
+use Rattle.std.specs.Prelude.{ℕ, Bool, false, ◌==◌, List, slice_index_or, Option, Some, None}
 use Rattle.acct_core.specs.declared.row.Row.{Row}
 use Rattle.acct_core.specs.declared.shape.Shape.{Shape}
 
@@ -8,15 +7,15 @@ use Rattle.acct_core.specs.declared.shape.Shape.{Shape}
 abbrev pub blank : Row
 blank = record { shape = record { made = false; is_open = false; parent = None; reservation = 0 }; limit = 0; held = 0; uses = 0 }
 
--- the row of the number n
+-- the row of a node
 abbrev pub row : List Row → ℕ → Row
-row rows n = slice_index_or rows n blank
+row rows node = slice_index_or rows node blank
 
 -- what each number's allocator is
 abbrev pub shapes : List Row → ℕ → Shape
-shapes rows n = (row rows n).shape
+shapes rows node = (row rows node).shape
 
--- whether there is a number, and it is n
+-- whether there is a number, and it is this node's
 abbrev pub is_at : Option ℕ → ℕ → Bool
-is_at None n = false
-is_at (Some m) n = m == n
+is_at None node = false
+is_at (Some number) node = number == node

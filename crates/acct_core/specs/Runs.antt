@@ -11,5 +11,6 @@ pub data Takes (old : State) (event : Event) (new : State) : Type 0 where
 
 -- the events one by one
 pub data Runs : State → List Event → State → Type 0 where
-  done : {s : State} → Runs s [] s
-  more : {s t u : State} {event : Event} {events : List Event} → Takes s event t → Runs t events u → Runs s (event ∷ events) u
+  done : {state : State} → Runs state [] state
+  more : {old next new : State} {event : Event} {events : List Event} →
+      Takes old event next → Runs next events new → Runs old (event ∷ events) new

@@ -2,15 +2,12 @@
 //! balance. An event is one atomic step of one caller, and no thread is in sight.
 #![tactic(auto)]
 
-mod account;
-mod claim;
 mod event;
 mod head_laws;
 mod laws;
 mod level_step;
 mod machine;
 mod not_now;
-mod phase;
 mod row;
 mod shape;
 mod slot;
@@ -18,8 +15,6 @@ mod stage;
 mod step;
 mod told;
 
-pub use account::Account;
-pub use claim::Claim;
 pub use event::Event;
 pub use head_laws::{
     child_of_the_first_claim_keeps_the_law, closing_on_the_first_claim_keeps_the_law,
@@ -37,7 +32,6 @@ pub use laws::{
 pub use level_step::LevelStep;
 pub use machine::Core;
 pub use not_now::NotNow;
-pub use phase::Phase;
 pub use row::Row;
 pub use shape::Shape;
 pub use step::Step;

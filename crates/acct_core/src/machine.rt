@@ -12,14 +12,11 @@ use crate::not_now::NotNow;
 use crate::row::Row;
 use crate::slot::Slot;
 use crate::told::Told;
-use mem_num::{AllocId, NoMemory, Node};
+use mem_num::{AllocId, MAX_LIMIT, MOST_ALLOCATORS, NoMemory, Node};
 use std::alloc::Global;
 use std::marker::Model;
 
-/// How many allocators there may be.
-const MOST_NODES: u32 = 64;
-
-/// The accounts of at most 64 allocators, with claims on them. Contracts see the account and the bytes that are left.
+/// The accounts of a tree of allocators, with claims on them. Contracts see the account and the bytes that are left.
 #[derive(Drop)]
 pub struct Core {
     rows: Vec<Row>,
@@ -31,31 +28,29 @@ pub struct Core {
 
 impl Model for Core {
     ghost use Rattle.std.specs.Prelude.{◌≡◌};
-    ghost use Rattle.acct_core.specs.State.{State, IsLawfulState, made_count};
+    ghost use Rattle.acct_core.specs.State.{State, IsLawfulMachine, made_count, state_of};
 
     ghost Value = { State };
 
-    ghost use Rattle.acct_core.specs.Slots.{account_of};
+    ghost view = { λ core. state_of core.rows.items core.slots.items core.bytes };
 
-    ghost view = { λ k. record { account = account_of k.rows.items k.slots.items; bytes = k.bytes } };
-
-    ghost invariant = { λ k. IsLawfulState (record { account = account_of k.rows.items k.slots.items; bytes = k.bytes }) × (k.made ≡ made_count k.rows.items) };
+    ghost invariant = { λ core. IsLawfulMachine (state_of core.rows.items core.slots.items core.bytes) × (core.made ≡ made_count core.rows.items) };
 }
 
 impl Core {
     ghost use Rattle.acct_core.specs.Opening.{opening};
     ghost use Rattle.acct_core.specs.Rows.{row};
     ghost use Rattle.acct_core.specs.Runs.{Runs};
-    ghost use Rattle.acct_core.specs.State.{node_of, CanTake, StepsTo, IsLawfulState, IsOfClaim, spent};
+    ghost use Rattle.acct_core.specs.State.{shown_node, CanTake, StepsTo, IsLawfulMachine, IsOfClaim, spent};
     ghost use Rattle.acct_core.specs.Effects.{claim_number};
     ghost use Rattle.acct_core.specs.declared.event.Event.TheVariants as event;
 
     /// A tree of the root alone, with so many claims, on which requests of so many bytes may be made. All memory is taken here.
     pub fn open(alloc: Global, root_limit: u64, claims: u32, bytes: u64) -> Result<Core, NoMemory>
-        requires limit { root_limit < 2 ^ 63 }
+        requires limit { root_limit ≤ MAX_LIMIT }
         requires bytes { bytes ≤ 2 ^ 61 }
         ensures opening { IfOk result (λ core. core ≡ opening root_limit claims bytes) }
-        ensures lawful { IfOk result IsLawfulState }
+        ensures lawful { IfOk result IsLawfulMachine }
     {
         let rows = opening_rows(alloc, root_limit)?;
         let slots = free_slots(alloc, claims)?;
@@ -71,7 +66,7 @@ impl Core {
     pub fn step(&mut self, event: Event) -> Result<Told, NotNow>
         // What is done and told is the event table's.
         ensures step { IfOk result (λ told. StepsTo self.old event told self.new) }
-        ensures lawful { IsLawfulState self.new }
+        ensures lawful { IsLawfulMachine self.new }
 
         // An event is refused exactly where it can't be taken, and changes nothing.
         ensures taken { IsOk result ↔ CanTake self.old event }
@@ -97,7 +92,7 @@ impl Core {
     /// What an allocator may hold, holds and reserves; none where it wasn't made. Its peak is 0, since peaks are no part of these
     /// accounts.
     pub fn node(&self, at: AllocId) -> Option<Node>
-        ensures { SomeIff result (IsTrue (row self.now.account.rows at.0).shape.made) (node_of (row self.now.account.rows at.0)) }
+        ensures { SomeIff result (IsTrue (row self.now.account.rows at.0).shape.made) (shown_node (row self.now.account.rows at.0)) }
     {
         let row = self.rows.get(at.0 as usize)?;
         if row.shape.made {
@@ -110,7 +105,7 @@ impl Core {
     /// Takes the events one by one, going past those that can't be taken.
     pub fn run(&mut self, events: &[Event])
         ensures runs { Runs self.old events.now self.new }
-        ensures lawful { IsLawfulState self.new }
+        ensures lawful { IsLawfulMachine self.new }
     {
         // Reading a field tells the proof what always holds of the accounts.
         let _ = &self.rows;
@@ -125,7 +120,7 @@ impl Core {
         requires number { claim ≡ claim_number event }
         requires spends { size ≡ spent event }
         ensures step { IfOk result (λ told. StepsTo self.old event told self.new) }
-        ensures lawful { IsLawfulState self.new }
+        ensures lawful { IsLawfulMachine self.new }
         ensures taken { IsOk result ↔ CanTake self.old event }
         ensures unchanged { OnErr result (self.new ≡ self.old) }
     {
@@ -147,11 +142,11 @@ impl Core {
     /// Makes a child with the next number, which stands on a claim that pays for its reservation.
     fn open_child(&mut self, claim: u32, reservation: u64, limit: u64) -> Result<Told, NotNow>
         ensures step { IfOk result (λ told. StepsTo self.old (event.Open claim reservation limit) told self.new) }
-        ensures lawful { IsLawfulState self.new }
+        ensures lawful { IsLawfulMachine self.new }
         ensures taken { IsOk result ↔ CanTake self.old (event.Open claim reservation limit) }
         ensures unchanged { OnErr result (self.new ≡ self.old) }
     {
-        if limit < reservation || self.made >= MOST_NODES {
+        if limit < reservation || self.made >= MOST_ALLOCATORS {
             return Err(NotNow);
         }
         let Some(slot) = self.slots.get_mut(claim as usize) else {
@@ -171,7 +166,7 @@ impl Core {
     /// Closes a node that has no uses, and frees the claim on which it stood.
     fn close(&mut self, node: AllocId) -> Result<Told, NotNow>
         ensures step { IfOk result (λ told. StepsTo self.old (event.Close node) told self.new) }
-        ensures lawful { IsLawfulState self.new }
+        ensures lawful { IsLawfulMachine self.new }
         ensures taken { IsOk result ↔ CanTake self.old (event.Close node) }
         ensures unchanged { OnErr result (self.new ≡ self.old) }
     {
@@ -195,7 +190,7 @@ impl Core {
 
 /// The slot on which a node stands.
 fn backing(slots: &[Slot], node: u32) -> Option<usize>
-    ensures some { IfSome result (λ i. (i < length slots.now) × HoldsAt (λ slot. IsTrue (is_at slot.under node)) slots.now i) }
+    ensures some { IfSome result (λ place. (place < length slots.now) × HoldsAt (λ slot. IsTrue (is_at slot.under node)) slots.now place) }
     ensures none { IfNone result (All (λ slot. ¬ IsTrue (is_at slot.under node)) slots.now) }
 {
     slots.iter().position(|slot| slot.under == Some(node))
@@ -205,7 +200,7 @@ fn backing(slots: &[Slot], node: u32) -> Option<usize>
 fn opening_rows(alloc: Global, root_limit: u64) -> Result<Vec<Row>, NoMemory>
     ensures { IfOk result (λ rows. rows.items ≡ first_rows root_limit) }
 {
-    let Ok(mut rows) = vec![in alloc; Row::blank(); MOST_NODES as usize] else {
+    let Ok(mut rows) = vec![in alloc; Row::blank(); MOST_ALLOCATORS as usize] else {
         return Err(NoMemory);
     };
     rows[0] = Row::root(root_limit);

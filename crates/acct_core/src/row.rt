@@ -15,10 +15,10 @@ pub struct Row {
 }
 
 impl Row {
-    ghost use Rattle.acct_core.specs.Applies.{child_row};
-    ghost use Rattle.acct_core.specs.Opening.{root_row};
+    ghost use Rattle.acct_core.specs.Applies.{opened_row};
+    ghost use Rattle.acct_core.specs.Opening.{opening_row};
     ghost use Rattle.acct_core.specs.Rows.{blank};
-    ghost use Rattle.acct_core.specs.State.{node_of};
+    ghost use Rattle.acct_core.specs.State.{shown_node};
 
     /// The row of a number that wasn't given yet.
     pub fn blank() -> Row
@@ -39,7 +39,7 @@ impl Row {
 
     /// The row of the root, which has no parent and reserves nothing.
     pub fn root(limit: u64) -> Row
-        ensures { result ≡ root_row limit }
+        ensures { result ≡ opening_row limit }
     {
         Row {
             shape: Shape {
@@ -56,7 +56,7 @@ impl Row {
 
     /// The row of a child that was just made.
     pub fn child(parent: u32, reservation: u64, limit: u64) -> Row
-        ensures { result ≡ child_row parent reservation limit }
+        ensures { result ≡ opened_row parent reservation limit }
     {
         Row {
             shape: Shape {
@@ -73,7 +73,7 @@ impl Row {
 
     /// What a caller sees of the allocator.
     pub fn node(&self) -> Node
-        ensures { result ≡ node_of self.now }
+        ensures { result ≡ shown_node self.now }
     {
         Node {
             reservation: self.shape.reservation,

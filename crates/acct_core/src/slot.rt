@@ -1,5 +1,6 @@
 //! A running claim, and what each event does to it and to one row.
 ghost use Rattle.std.specs.Prelude.{◌≡◌, ◌+◌, ◌≤◌, ◌↔◌, IfOk, IsTrue, OnErr, None, vec_capacity, vec_len};
+ghost use Rattle.mem_num.specs.declared.bounds.TheConstants.{MOST_ALLOCATORS};
 ghost use Rattle.acct_core.specs.Effects as effects;
 ghost use Rattle.acct_core.specs.Stages.{levels_ahead};
 
@@ -12,7 +13,7 @@ use crate::not_now::NotNow;
 use crate::row::Row;
 use crate::stage::Stage;
 use crate::told::Told;
-use mem_num::NoMemory;
+use mem_num::{MOST_ALLOCATORS, NoMemory};
 use std::alloc::Global;
 
 /// A running claim. Its list of steps has room for one at each level, so that no event takes memory.
@@ -22,7 +23,7 @@ pub struct Slot {
     pub under: Option<u32>,
     pub stage: Stage,
     pub steps: Vec<LevelStep>,
-    pub ghost deep: { 64 ≤ vec_capacity steps },
+    pub ghost deep: { MOST_ALLOCATORS ≤ vec_capacity steps },
     pub ghost room: { vec_len steps + levels_ahead stage ≤ vec_capacity steps },
 }
 
@@ -36,7 +37,7 @@ impl Slot {
     pub fn free(alloc: Global) -> Result<Slot, NoMemory>
         ensures { IfOk result (λ slot. claim_of slot ≡ no_claim) }
     {
-        let Ok(steps) = Vec::with_capacity(alloc, 64) else {
+        let Ok(steps) = Vec::with_capacity(alloc, MOST_ALLOCATORS as usize) else {
             return Err(NoMemory);
         };
         Ok(Slot {

@@ -8,8 +8,6 @@ use std::test::Fail;
 
 mod walks;
 
-const MAX_LIMIT: u64 = 9_223_372_036_854_775_807;
-
 fn enter(claim: u32, node: u32) -> Event {
     Event::Enter {
         claim,

@@ -1,6 +1,6 @@
 //! The events of a request: what is added level by level, and what is subtracted again.
 ghost use Rattle.std.specs.Prelude.{◌≡◌, ◌<◌, ◌≤◌, IfOk, OnErr};
-ghost use Rattle.mem_model.specs.Reservation.{beyond_reservation};
+ghost use Rattle.mem_model.specs.Reservation as reservation;
 ghost use Rattle.acct_core.specs.Effects as effects;
 ghost use Rattle.acct_core.specs.Effects.{begin_effect, down_effect, release_effect, undo_effect, up_effect};
 ghost use Rattle.acct_core.specs.Phases as phases;
@@ -14,10 +14,8 @@ use crate::slot::Slot;
 use crate::stage::Stage;
 use crate::step::Step;
 use crate::told::Told;
-use mem_num::AllocId;
-
-/// The largest request, in bytes.
-const LARGEST_REQUEST: u64 = 1 << 40;
+use mem_model::beyond_reservation;
+use mem_num::{AllocId, MAX_RESERVATION};
 
 /// What a step tells.
 fn told_step(step: LevelStep, last: bool) -> Told
@@ -46,11 +44,9 @@ fn step_at(level: u32, row: &Row, amount: u64) -> LevelStep
 
 /// The parent, and how much more it counts once the row's held number has risen from `low` to `high`, if that is anything.
 fn passed(row: &Row, low: u64, high: u64) -> Option<(u32, u64)>
-    requires { low ≤ high }
-    ensures { result ≡ effects.passed row.now.shape.parent (beyond_reservation row.now.shape.reservation low high) }
+    ensures { result ≡ effects.passed row.now.shape.parent (reservation.beyond_reservation row.now.shape.reservation low high) }
 {
-    let beyond = high.saturating_sub(row.shape.reservation);
-    let amount = beyond.min(high - low);
+    let amount = beyond_reservation(row.shape.reservation, low, high);
     match row.shape.parent {
         Some(parent) if amount > 0 => Some((parent, amount)),
         _ => None,
@@ -84,7 +80,7 @@ impl Slot {
         ensures not_now { OnErr result (HasNoEffect (begin_effect size force) self.old row.old) }
         ensures unchanged { OnErr result ((self.new ≡ self.old) × (row.new ≡ row.old)) }
     {
-        if self.stage != Stage::In || self.under.is_some() || size == 0 || size > LARGEST_REQUEST {
+        if self.stage != Stage::In || self.under.is_some() || size == 0 || size > MAX_RESERVATION {
             return Err(NotNow);
         }
         self.steps.clear();
