@@ -1,0 +1,10 @@
+//! Small callers of the tree, as a caller writes them, each proved: what it ensures follows from the clauses of the calls.
+#![tactic(auto)]
+
+mod allocators;
+mod references;
+mod reports;
+
+pub use allocators::{ask, finish, open_operator, open_query};
+pub use references::{hand_over, scan_and_filter};
+pub use reports::{is_own_report_lawful, name_operator};
