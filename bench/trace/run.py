@@ -4,9 +4,9 @@
     run.py [--times N] [--lines N] [--peer-alone] [PROGRAM WORD..]
 
 PROGRAM is run as `PROGRAM WORD.. trace FILE`; without it that is ./arrowmem at the top of the repository, which is proved
-and built first where it isn't yet. The peer of bench/peer is compiled into a temporary folder where there is a rustc, and
-else left out. The two take turns, and each figure is the least of N runs (default 5); then what they print is compared byte
-by byte.
+and built first where it isn't yet. The peer of bench/trace/peer is compiled into a temporary folder where there is a
+rustc, and else left out. The two take turns, and each figure is the least of N runs (default 5); then what they print is
+compared byte by byte.
 """
 
 import argparse
@@ -66,7 +66,7 @@ def table(names, commands, traces, times):
 
 def built_program():
     """The launcher as a command, after it has built the proved program: what it runs before isn't to be timed."""
-    launcher = os.path.join(os.path.dirname(HERE), "arrowmem")
+    launcher = os.path.join(os.path.dirname(os.path.dirname(HERE)), "arrowmem")
     if subprocess.run([launcher, "--build"]).returncode != 0:
         sys.exit("the program isn't built: nothing to measure")
     return [launcher]
