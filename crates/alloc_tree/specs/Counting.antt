@@ -1,11 +1,21 @@
 -- How many calls of a tree have drawn a number or added a reference.
-use Rattle.std.specs.Prelude.{ℕ, zero, suc, ◌+◌, ◌-◌, ◌^◌, min}
+use Rattle.std.specs.Prelude.{ℕ, zero, suc, ◌+◌, ◌-◌, ◌<◌, ◌≤◌, min}
+use Rattle.mem_num.specs.declared.bounds.TheConstants.{MOST_NUMBERS}
+use Rattle.mem_model.specs.Calls.{references_in}
+use Rattle.mem_model.specs.MeasuredTree.{MeasuredTree}
 
 -- the most that is counted
 abbrev pub most_calls : ℕ
-most_calls = 2 ^ 32 - 1
+most_calls = MOST_NUMBERS - 1
 
 -- the count after a call that drew so many: one more where it drew any, until the count stands still
 abbrev pub count_after : ℕ → ℕ → ℕ
 count_after calls zero = calls
 count_after calls (suc n) = min (calls + 1) most_calls
+
+-- a count that doesn't stand still covers the chunk numbers that were drawn, those of allocators, of which the root had one from
+-- the start, and the references that there are
+pub record CountsCalls (tree : MeasuredTree) : Type 0 where
+  pub drawn : tree.calls < most_calls → tree.state.drawn ≤ tree.calls
+  pub next : tree.calls < most_calls → tree.state.next ≤ tree.calls + 1
+  pub references : tree.calls < most_calls → references_in tree.state ≤ tree.calls
