@@ -17,6 +17,7 @@ mod UseLemmas
 mod GrantLemmas
 mod CallLemmas
 mod DoneLemmas
+mod CountLemmas
 mod RetainLemmas
 mod TakeOverLemmas
 mod TransferLemmas

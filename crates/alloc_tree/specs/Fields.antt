@@ -9,6 +9,7 @@ use Rattle.mem_model.specs.Chunk.{Chunk}
 use Rattle.alloc_tree.specs.declared.row.Row.{Row}
 use Rattle.alloc_tree.specs.declared.solo_tree.SoloTree.TheInside.{Inside}
 use Rattle.alloc_tree.specs.Rows.{nodes_in, held_by, peaks_of, uses_in}
+use Rattle.alloc_tree.specs.Counting.{CountsCalls}
 
 -- the tree that rows and chunks are
 abbrev pub state_with : List (Option Row) → List Chunk → ℕ → ℕ → TreeState
@@ -30,3 +31,8 @@ pub record IsSoundSolo (fields : Inside) : Type 0 where
   pub lawful : IsLawfulState (state_of fields)
   pub numbers : KeepsNumbers fields.rows (state_of fields)
   pub places : length fields.rows ≡ MOST_ALLOCATORS
+
+-- such fields, whose count of calls covers the numbers that were drawn and the references that there are
+pub record IsCountedSolo (fields : Inside) : Type 0 where
+  pub sound : IsSoundSolo fields
+  pub counts : CountsCalls (tree_of fields)

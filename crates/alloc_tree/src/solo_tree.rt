@@ -42,11 +42,11 @@ impl Model for SoloTree {
 
     ghost Value = { MeasuredTree };
 
-    ghost use Rattle.alloc_tree.specs.Fields.{tree_of, IsSoundSolo};
+    ghost use Rattle.alloc_tree.specs.Fields.{tree_of, IsCountedSolo};
 
     ghost view = { tree_of };
 
-    ghost invariant = { IsSoundSolo };
+    ghost invariant = { IsCountedSolo };
 }
 
 impl SoloTree {

@@ -10,7 +10,7 @@ returns-in_default-clause-value t c = headroom_unmade c.self.inside c.args.self.
 pub headroom_at-requires : goal.headroom_at-requires
 headroom_at-requires t c =
     let row : IsSoundRow c.self.inside c.args.self.now c.args.at c.in-Some.row = record {
-      sound = c.self.invariant;
+      sound = c.self.invariant.sound;
       view = c.self.view_is;
       is = sym c.get.ensures ∙ c.in-Some.is;
     } in
@@ -20,7 +20,7 @@ headroom_at-requires t c =
 pub returns-in_default-parent-clause-value : goal.returns-in_default-parent-clause-value
 returns-in_default-parent-clause-value t c =
     let row : IsSoundRow c.self.inside c.args.self.now c.args.at c.in-Some.row = record {
-      sound = c.self.invariant;
+      sound = c.self.invariant.sound;
       view = c.self.view_is;
       is = sym c.get.ensures ∙ c.in-Some.is;
     } in
@@ -29,7 +29,7 @@ returns-in_default-parent-clause-value t c =
 pub returns-clause-value : goal.returns-clause-value
 returns-clause-value t c =
     let row : IsSoundRow c.self.inside c.args.self.now c.args.at c.in-Some.row = record {
-      sound = c.self.invariant;
+      sound = c.self.invariant.sound;
       view = c.self.view_is;
       is = sym c.get.ensures ∙ c.in-Some.is;
     } in

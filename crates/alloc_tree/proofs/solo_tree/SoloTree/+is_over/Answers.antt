@@ -8,7 +8,7 @@ returns-in_default t c = over_unmade c.self.inside c.args.self.now c.args.at c.s
 pub returns-in_default-parent : goal.returns-in_default-parent
 returns-in_default-parent t c =
     let row : IsSoundRow c.self.inside c.args.self.now c.args.at c.in-Some.row = record {
-      sound = c.self.invariant;
+      sound = c.self.invariant.sound;
       view = c.self.view_is;
       is = sym c.get.ensures ∙ c.in-Some.is;
     } in
@@ -17,7 +17,7 @@ returns-in_default-parent t c =
 pub is_over-requires : goal.is_over-requires
 is_over-requires t c =
     let row : IsSoundRow c.self.inside c.args.self.now c.args.at c.in-Some.row = record {
-      sound = c.self.invariant;
+      sound = c.self.invariant.sound;
       view = c.self.view_is;
       is = sym c.get.ensures ∙ c.in-Some.is;
     } in
@@ -27,7 +27,7 @@ is_over-requires t c =
 pub returns-then-is_past : goal.returns-then-is_past
 returns-then-is_past t c =
     let row : IsSoundRow c.self.inside c.args.self.now c.args.at c.in-Some.row = record {
-      sound = c.self.invariant;
+      sound = c.self.invariant.sound;
       view = c.self.view_is;
       is = sym c.get.ensures ∙ c.in-Some.is;
     } in
@@ -36,7 +36,7 @@ returns-then-is_past t c =
 pub returns-else-is_past : goal.returns-else-is_past
 returns-else-is_past t c =
     let row : IsSoundRow c.self.inside c.args.self.now c.args.at c.in-Some.row = record {
-      sound = c.self.invariant;
+      sound = c.self.invariant.sound;
       view = c.self.view_is;
       is = sym c.get.ensures ∙ c.in-Some.is;
     } in

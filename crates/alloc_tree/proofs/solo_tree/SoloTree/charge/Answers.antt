@@ -3,6 +3,7 @@ use Rattle.mem_num.specs.declared.buffer_refused.BufferRefused.TheVariants.{Full
 use Rattle.mem_model.specs.Chunk.{charges_of}
 use Rattle.mem_model.specs.Grant.{charge_result}
 use Rattle.mem_model.specs.Release.{without_chunk}
+use Rattle.alloc_tree.proofs.CountLemmas.{charge_counted}
 use Rattle.alloc_tree.proofs.DoneLemmas.{IsDone, seen}
 use Rattle.alloc_tree.proofs.GrantLemmas.{granted, grant_refused}
 use Rattle.alloc_tree.proofs.LowerLemmas.{stays_open}
@@ -14,11 +15,11 @@ request-requires-clause-open c = open_in c.self.inside c.args.at.0 (open_here c.
 
 pub request-requires-clause-fits : goal.request-requires-clause-fits
 request-requires-clause-fits c =
-    room_for c.self.invariant c.args.size (omega (arith, drawn_here c.self.inside c.self.view_is, c.requires.numbers))
+    room_for c.self.invariant.sound c.args.size (omega (arith, drawn_here c.self.inside c.self.view_is, c.requires.numbers))
     (omega (arith, c.requires.few_bytes))
 
 pub request-requires-clause-balanced : goal.request-requires-clause-balanced
-request-requires-clause-balanced c = (charges_of c.self.inside.chunks, c.self.invariant.numbers.held)
+request-requires-clause-balanced c = (charges_of c.self.inside.chunks, c.self.invariant.sound.numbers.held)
 
 -- the request was refused
 refused : (c : goal.After-remove)
@@ -34,11 +35,12 @@ refused c =
     let answers = rw c.in-Err.is at c.request.ensures.answers in
     let left = c.remove.ensures ∙ ap (without_chunk (f.drawn + 1)) c.in_ok-push.ensures.pushed in
     seen (λ s. charge_result s (record { at = c.args.at; amount = c.args.size })) c.self.view_is
-    (grant_refused c.self.invariant c.args.at c.args.size c.request.new.self c.request.ensures.kept c.remove.new.self _ c.in-Err.full
-    (answers (charges_of f.chunks) c.self.invariant.numbers.held) left)
+    (grant_refused c.self.invariant.sound c.args.at c.args.size c.request.new.self c.request.ensures.kept c.remove.new.self _ c.in-Err.full
+    (answers (charges_of f.chunks) c.self.invariant.sound.numbers.held) left)
 
 pub invariant_of-self-in-Err : goal.invariant_of-self-in-Err
-invariant_of-self-in-Err c = (refused c).sound
+invariant_of-self-in-Err c =
+    charge_counted c.self.invariant c.self.view_is (record { at = c.args.at; amount = c.args.size }) (refused c) c.one_more-self-inside.ensures
 
 pub returns-in-Err-clause-answer : goal.returns-in-Err-clause-answer
 returns-in-Err-clause-answer c = λ _. (refused c).told
@@ -56,7 +58,7 @@ add_use-requires-clause-made c =
 pub add_use-requires-clause-fits : goal.add_use-requires-clause-fits
 add_use-requires-clause-fits c =
     let same = ap (λ (uses : ℕ → ℕ). uses c.args.at.0) c.request.ensures.kept.uses in
-    omega (arith, same, few_uses c.self.invariant c.args.at.0 (omega (arith, drawn_here c.self.inside c.self.view_is, c.requires.numbers)))
+    omega (arith, same, few_uses c.self.invariant.sound c.args.at.0 (omega (arith, drawn_here c.self.inside c.self.view_is, c.requires.numbers)))
 
 given : (c : goal.After-add_use)
     → IsDone c.args.self.now (charge_result c.args.self.now.state (record { at = c.args.at; amount = c.args.size }))
@@ -72,12 +74,13 @@ given c =
     let answers = rw c.in_default.is at c.request.ensures.answers in
     seen (λ s. charge_result s (record { at = c.args.at; amount = c.args.size })) c.self.view_is
     (rw c.in_ok-push.ensures.pushed
-    (granted c.self.invariant c.args.at c.args.size c.request.new.self c.request.ensures.kept c.add_use.new.self _ open_
+    (granted c.self.invariant.sound c.args.at c.args.size c.request.new.self c.request.ensures.kept c.add_use.new.self _ open_
     c.requires.some_bytes c.requires.few_bytes
-    (answers (charges_of c.self.inside.chunks) c.self.invariant.numbers.held) c.add_use.ensures.uses))
+    (answers (charges_of c.self.inside.chunks) c.self.invariant.sound.numbers.held) c.add_use.ensures.uses))
 
 pub invariant_of-self-2 : goal.invariant_of-self-2
-invariant_of-self-2 c = (given c).sound
+invariant_of-self-2 c =
+    charge_counted c.self.invariant c.self.view_is (record { at = c.args.at; amount = c.args.size }) (given c) c.one_more-self-inside.ensures
 
 pub returns-clause-answer : goal.returns-clause-answer
 returns-clause-answer c = λ _. (given c).told

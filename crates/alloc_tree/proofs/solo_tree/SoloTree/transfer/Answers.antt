@@ -23,7 +23,7 @@ returns-in_err-reference-clause-after c = λ other.
 -- it was given, and the charge taken over
 pub take_over-fits-requires : goal.take_over-fits-requires
 take_over-fits-requires c =
-    let lawful = subst (λ (t : MeasuredTree). IsLawfulState t.state) c.self.view_is c.self.invariant.lawful in
+    let lawful = subst (λ (t : MeasuredTree). IsLawfulState t.state) c.self.view_is c.self.invariant.sound.lawful in
     let told = c.in_ok-reference.ensures in
     let given = is_retained c.args.self.now.state c.args.of c.args.target c.in_ok-reference.reference (told.answer (λ same. absurd cc)) in
     record {
@@ -33,7 +33,7 @@ take_over-fits-requires c =
 
 pub returns : goal.returns
 returns c =
-    let lawful = subst (λ (t : MeasuredTree). IsLawfulState t.state) c.self.view_is c.self.invariant.lawful in
+    let lawful = subst (λ (t : MeasuredTree). IsLawfulState t.state) c.self.view_is c.self.invariant.sound.lawful in
     let told = c.in_ok-reference.ensures in
     let given = is_retained c.args.self.now.state c.args.of c.args.target c.in_ok-reference.reference (told.answer (λ same. absurd cc)) in
     let take = c.take_over-fits in
