@@ -1,8 +1,8 @@
 -- What calls do to the count of calls, and to what it covers.
-use Rattle.std.proofs.Common.{◌≡◌, ℕ, ◌+◌, ◌≤◌, ◌==◌, nat_lt, not, Bool, true, List, [], Option, Some, None, Result, Ok, Err, refl, sym, ap, subst, ◌∙◌, arith}
+use Rattle.std.proofs.Common.{◌≡◌, ℕ, ◌+◌, ◌≤◌, ◌==◌, nat_lt, not, All, Bool, true, List, [], Option, Some, None, Result, Ok, Err, refl, sym, ap, subst, ◌∙◌, arith}
 use Rattle.std.specs.Option.{option_map_or}
 use Rattle.std.proofs.lemmas.Bool.{cond_both}
-use Rattle.std.proofs.lemmas.List.Sums.{sum_by_push}
+use Rattle.std.proofs.lemmas.List.Sums.{get_or-le-sum_by, sum_by_push}
 use Rattle.mem_num.specs.declared.alloc_id.AllocId.{AllocId}
 use Rattle.mem_num.specs.declared.buffer_ref.Ref.{Ref}
 use Rattle.mem_num.specs.declared.buffer_refused.BufferRefused.{BufferRefused}
@@ -19,7 +19,7 @@ use Rattle.mem_model.specs.Close.{close_result, with_closed}
 use Rattle.mem_model.specs.Grant.{after_charge, charge_result, grant_result}
 use Rattle.mem_model.specs.LawfulState.{IsLawfulState}
 use Rattle.mem_model.specs.MeasuredTree.{MeasuredTree}
-use Rattle.mem_model.specs.References.{referred_chunk, released_at}
+use Rattle.mem_model.specs.References.{HasRoomFor, referred_chunk, released_at}
 use Rattle.mem_model.specs.Release.{release_from, release_result}
 use Rattle.mem_model.specs.Request.{refusing_level}
 use Rattle.mem_model.specs.Retain.{retain_result}
@@ -28,13 +28,22 @@ use Rattle.mem_model.specs.TreeState.{TreeState, CallResult, charges_in, is_open
 use Rattle.mem_model.proofs.CallBalanceLemmas.{references-call}
 use Rattle.mem_model.proofs.ChunkSumLemmas.{sum_by-with_chunk}
 use Rattle.mem_model.proofs.DrawnLemmas.{call_draws}
+use Rattle.mem_model.proofs.ReferenceLemmas.{found}
 use Rattle.mem_model.proofs.ReferenceSumLemmas.{total_on}
 use Rattle.alloc_tree.specs.declared.row.Row.{Row}
 use Rattle.alloc_tree.specs.declared.solo_tree.SoloTree.TheInside.{Inside}
-use Rattle.alloc_tree.specs.Counting.{CountsCalls, count_after, most_calls}
+use Rattle.alloc_tree.specs.Counting.{CountsCalls, HasCallsLeft, count_after, most_calls}
 use Rattle.alloc_tree.specs.Fields.{IsCountedSolo, state_with, tree_of}
 use Rattle.alloc_tree.specs.TakeOver.{taken_over, take_over_from, take_over_result}
 use Rattle.alloc_tree.proofs.DoneLemmas.{IsDone, numbered_lawful}
+
+-- a chunk has no more references than there are, so while calls are left there is room for one more
+pub room_left : (tree : MeasuredTree) → CountsCalls tree → HasCallsLeft tree → (of : Ref) → HasRoomFor tree.state of
+room_left tree counts left of chunk is =
+    let few : All (λ (c : Chunk). total_on c ≤ references_in tree.state) tree.state.chunks =
+    λ k d within. get_or-le-sum_by total_on tree.state.chunks k d within in
+    let its = (found (λ (c : Chunk). total_on c ≤ references_in tree.state) (λ c. c.number == of.chunk) tree.state.chunks chunk few is).0 in
+    omega (arith, left, its, counts.references (omega (arith, left)))
 
 -- a tree with at most so many numbers of each kind and references more
 pub record AddsAtMost (count : ℕ) (old new : TreeState) : Type 0 where

@@ -19,3 +19,7 @@ pub record CountsCalls (tree : MeasuredTree) : Type 0 where
   pub drawn : tree.calls < most_calls → tree.state.drawn ≤ tree.calls
   pub next : tree.calls < most_calls → tree.state.next ≤ tree.calls + 1
   pub references : tree.calls < most_calls → references_in tree.state ≤ tree.calls
+
+-- a call more may be counted, after which the count doesn't stand still
+abbrev pub HasCallsLeft : MeasuredTree → Type 0
+HasCallsLeft tree = tree.calls + 1 < most_calls

@@ -14,4 +14,4 @@ mod walk;
 pub use name::Name;
 pub use name_refused::NameRefused;
 pub use names::Names;
-pub use solo_tree::{SoloTree, every_tree_is_lawful};
+pub use solo_tree::{SoloTree, every_tree_counts_its_calls, every_tree_is_lawful};

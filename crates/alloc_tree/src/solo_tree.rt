@@ -1,13 +1,15 @@
 //! The tree of one thread.
-ghost use Rattle.std.specs.Prelude.{◌≡◌, ◌<◌, ◌≤◌, ◌^◌, IfOk, map};
+ghost use Rattle.std.specs.Prelude.{◌≡◌, ◌+◌, ◌<◌, ◌≤◌, ◌^◌, IfOk, map};
 ghost use Rattle.std.specs.Option.{option_map};
-ghost use Rattle.mem_num.specs.declared.bounds.TheConstants.{MAX_LIMIT};
+ghost use Rattle.mem_num.specs.declared.bounds.TheConstants.{MAX_LIMIT, MOST_NUMBERS};
+ghost use Rattle.mem_num.specs.declared.buffer_ref.Ref.{Ref};
 ghost use Rattle.mem_model.specs.LawfulState.{IsLawfulState};
 ghost use Rattle.mem_model.specs.TreeState.{is_open};
 ghost use Rattle.mem_model.specs.MeasuredTree.{IsOpened, peak_at, placed_at};
 ghost use Rattle.mem_model.specs.Chunk.{chunk_at};
+ghost use Rattle.mem_model.specs.References.{HasRoomFor};
 ghost use Rattle.alloc_tree.specs.Chunks.{chunk_of};
-ghost use Rattle.alloc_tree.specs.Counting.{count_after};
+ghost use Rattle.alloc_tree.specs.Counting.{CountsCalls, HasCallsLeft, count_after};
 
 mod child;
 mod close;
@@ -26,8 +28,9 @@ use std::collections::btree_map::Iter;
 use std::marker::Model;
 
 /// The tree of allocators of one thread, seen as its allocators and live chunks, the numbers to give next, the peak of each
-/// allocator, and how many calls have drawn a number or added a reference. After `RootAllocator` and `BaseAllocator` of Arrow Java. It keeps what each allocator holds, so a request costs its
-/// levels, and a look-up of an allocator takes the same time in every tree.
+/// allocator, and how many calls have drawn a number or added a reference. After `RootAllocator` and `BaseAllocator` of Arrow
+/// Java. It keeps what each allocator holds, so a request costs its levels, and a look-up of an allocator takes the same time in
+/// every tree.
 #[derive(Drop)]
 pub struct SoloTree {
     rows: Rows,
@@ -83,7 +86,8 @@ impl SoloTree {
         self.next
     }
 
-    /// How many calls have drawn a number of an allocator or of a chunk, or added a reference. The count stands still at `u32::MAX`.
+    /// How many calls have drawn a number of an allocator or of a chunk, or added a reference. The count stands still at
+    /// `u32::MAX`.
     pub fn calls(&self) -> u32
         ensures { result ≡ self.now.calls }
     {
@@ -129,6 +133,19 @@ fn one_more(calls: u32) -> u32
 /// The law that every tree is in a lawful state: its allocators are a tree within their bounds, and its live chunks are lawful.
 pub fn every_tree_is_lawful(tree: &SoloTree)
     ensures { IsLawfulState tree.now.state }
+{
+    // Reading a field tells the proof what always holds of the tree.
+    let _ = &tree.rows;
+}
+
+/// The law that the count of every tree covers the numbers that calls drew and the references that they added. So while calls are
+/// left to be counted, numbers are left for a chunk and for an allocator, and any chunk has room for a reference more.
+#[tactic(auto, using(crate::proofs::CountLemmas::room_left))]
+pub fn every_tree_counts_its_calls(tree: &SoloTree)
+    ensures counts { CountsCalls tree.now }
+    ensures chunk_number { HasCallsLeft tree.now → tree.now.state.drawn + 1 < MOST_NUMBERS }
+    ensures allocator_number { HasCallsLeft tree.now → tree.now.state.next + 1 < MOST_NUMBERS }
+    ensures room { HasCallsLeft tree.now → (of : Ref) → HasRoomFor tree.now.state of }
 {
     // Reading a field tells the proof what always holds of the tree.
     let _ = &tree.rows;
