@@ -1,8 +1,11 @@
 -- How many calls of a tree have drawn a number or added a reference.
 use Rattle.std.specs.Prelude.{ℕ, zero, suc, ◌+◌, ◌-◌, ◌<◌, ◌≤◌, min}
-use Rattle.mem_num.specs.declared.bounds.TheConstants.{MOST_NUMBERS}
+use Rattle.mem_num.specs.Rounded.{rounded_size}
+use Rattle.mem_num.specs.declared.alloc_id.AllocId.{AllocId}
+use Rattle.mem_num.specs.declared.bounds.TheConstants.{LARGEST, MOST_NUMBERS}
 use Rattle.mem_model.specs.Calls.{references_in}
 use Rattle.mem_model.specs.MeasuredTree.{MeasuredTree}
+use Rattle.mem_model.specs.TreeState.{TreeState, rounding_at}
 
 -- the most that is counted
 abbrev pub most_calls : ℕ
@@ -23,3 +26,8 @@ pub record CountsCalls (tree : MeasuredTree) : Type 0 where
 -- a call more may be counted, after which the count doesn't stand still
 abbrev pub HasCallsLeft : MeasuredTree → Type 0
 HasCallsLeft tree = tree.calls + 1 < most_calls
+
+-- a request that charges bytes at an open allocator, and so draws a number: it is rounded to some, and not to too many
+pub record ChargesBytes (state : TreeState) (at : AllocId) (request : ℕ) : Type 0 where
+  pub some : 1 ≤ rounded_size (rounding_at state at.0) request
+  pub few : rounded_size (rounding_at state at.0) request ≤ LARGEST

@@ -4,7 +4,7 @@ ghost use Rattle.mem_num.specs.declared.bounds.TheConstants.{LARGEST, MOST_NUMBE
 ghost use Rattle.mem_model.specs.Grant.{grant_result, charge_result};
 ghost use Rattle.mem_model.specs.MeasuredTree.{IsAfterCall};
 ghost use Rattle.mem_model.specs.TreeState.{is_open};
-ghost use Rattle.alloc_tree.specs.Counting.{count_after};
+ghost use Rattle.alloc_tree.specs.Counting.{ChargesBytes, count_after};
 
 use crate::solo_tree::{SoloTree, one_more};
 use mem_num::{AllocId, BufferRefused, Closed, Ref, Rounding, rounded};
@@ -13,7 +13,7 @@ impl SoloTree {
     /// Asks for a buffer of some bytes at an allocator, by the policy of powers of two. After `BaseAllocator.buffer`. The
     /// chunk's ledgers take memory, nothing else does.
     pub fn grant(&mut self, at: AllocId, request: u64) -> Result<Ref, BufferRefused>
-        requires numbers { self.old.state.drawn + 1 < MOST_NUMBERS }
+        requires numbers { ChargesBytes self.old.state at request → self.old.state.drawn + 1 < MOST_NUMBERS }
         ensures answer { result ≢ Err BufferRefused.NoMemory → result ≡ (grant_result self.old.state at request).answer }
         ensures after { result ≢ Err BufferRefused.NoMemory → IsAfterCall self.old (grant_result self.old.state at request) self.new }
         ensures no_memory { result ≡ Err BufferRefused.NoMemory → self.new ≡ self.old }

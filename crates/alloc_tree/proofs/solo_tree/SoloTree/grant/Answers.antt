@@ -1,4 +1,4 @@
-use Rattle.std.proofs.Common.{◌∙◌, sym, ap, subst, rules}
+use Rattle.std.proofs.Common.{◌∙◌, sym, ap, subst, arith, rules}
 use Rattle.mem_num.specs.Rounded.{rounded_size}
 use Rattle.mem_num.specs.declared.rounding.Rounding.TheVariants.{Power}
 use Rattle.mem_model.specs.MeasuredTree.{IsAfterCall}
@@ -39,6 +39,12 @@ returns-then-size-eq0 c =
       no_memory = search rules;
       counted = search rules;
     }
+
+-- a number is asked for only where bytes are charged
+pub charge-requires-clause-numbers : goal.charge-requires-clause-numbers
+charge-requires-clause-numbers c =
+    let fits = fits_rounded (rounded_size Power c.args.request) c.in_ok-size.was c.rounded.ensures.size in
+    c.requires.numbers (record { some = omega (arith, fits.1, c.if-size-eq0.false); few = fits.0 })
 
 pub returns : goal.returns
 returns c =
