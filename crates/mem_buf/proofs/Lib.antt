@@ -1,0 +1,6 @@
+-- Lemmas of this crate, and those for who calls a memory.
+pub mod PartLemmas
+pub mod ChainLemmas
+pub mod PayLemmas
+pub mod GiveBackLemmas
+pub mod StoreLemmas
