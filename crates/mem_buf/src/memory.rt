@@ -112,7 +112,8 @@ pub trait Memory {
         requires turn { turns_to_share (model.reference of.old) ≤ (model.view token.old).turns }
         ensures same { model.reference of.new ≡ model.reference of.old }
         ensures further { IfOk result (λ moved. IsFurther (model.reference of.old) target (model.reference moved.0)) }
-        ensures empty { is_empty (model.reference of.old) ≡ true → IfOk result (λ moved. moved.1 ≡ true) × IsOk result }
+        ensures empty { is_empty (model.reference of.old) ≡ true → IsOk result }
+        ensures fits { is_empty (model.reference of.old) ≡ true → IfOk result (λ moved. moved.1 ≡ true) }
         ensures closed { (closed : Closed) → result ≡ Err (RefRefused.Closed closed) → closed.node ≡ target }
         ensures unpinned { (closed : Closed) → result ≡ Err (RefRefused.Closed closed) → (model.view token.old).pins target.0 ≡ 0 }
         ensures makes { MakesCall model (MemoryCall.Transfer (model.reference of.old) target (named_fit model.reference result))
