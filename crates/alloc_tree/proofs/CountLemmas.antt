@@ -1,5 +1,6 @@
 -- What calls do to the count of calls, and to what it covers.
-use Rattle.std.proofs.Common.{◌≡◌, ℕ, ◌+◌, ◌≤◌, ◌==◌, nat_lt, not, All, Bool, true, List, [], Option, Some, None, Result, Ok, Err, refl, sym, ap, subst, ◌∙◌, arith}
+use Rattle.std.proofs.Common.{◌≡◌, ℕ, ◌+◌, ◌≤◌, ◌==◌, nat_lt, not, All, Bool, true, List, [], Option, Some, None, Result, Ok, Err, refl}
+use Rattle.std.proofs.Common.{sym, ap, subst, ◌∙◌, arith}
 use Rattle.std.specs.Option.{option_map_or}
 use Rattle.std.proofs.lemmas.Bool.{cond_both}
 use Rattle.std.proofs.lemmas.List.Sums.{get_or-le-sum_by, sum_by_push}
@@ -12,9 +13,10 @@ use Rattle.mem_num.specs.declared.released.Released.{Released}
 use Rattle.mem_num.specs.declared.solo_refused.SoloRefused.{SoloRefused}
 use Rattle.mem_model.specs.declared.charge.Charge.{Charge}
 use Rattle.mem_model.specs.declared.tree_node.TreeNode.{TreeNode}
-use Rattle.mem_model.specs.Calls.{TreeCall, Child, Close, Grant, Retain, Transfer, Release, after_call, one_if_ok, granted_by, given_by, references_in}
+use Rattle.mem_model.specs.Calls.{TreeCall, Child, Close, Grant, Retain, Transfer, Release, after_call, one_if_ok, granted_by, given_by}
+use Rattle.mem_model.specs.Calls.{references_in}
 use Rattle.mem_model.specs.Child.{child_result}
-use Rattle.mem_model.specs.Chunk.{Chunk, chunk_at, new_chunk, references_of, with_chunk}
+use Rattle.mem_model.specs.Chunk.{Chunk, chunk_at, new_chunk, references_of}
 use Rattle.mem_model.specs.Close.{close_result, with_closed}
 use Rattle.mem_model.specs.Grant.{after_charge, charge_result, grant_result}
 use Rattle.mem_model.specs.LawfulState.{IsLawfulState}
@@ -32,7 +34,7 @@ use Rattle.mem_model.proofs.ReferenceLemmas.{found}
 use Rattle.mem_model.proofs.ReferenceSumLemmas.{total_on}
 use Rattle.alloc_tree.specs.declared.row.Row.{Row}
 use Rattle.alloc_tree.specs.declared.solo_tree.SoloTree.TheInside.{Inside}
-use Rattle.alloc_tree.specs.Counting.{CountsCalls, HasCallsLeft, count_after, most_calls}
+use Rattle.alloc_tree.specs.Counting.{CountsCalls, HasCallsLeft, count_after}
 use Rattle.alloc_tree.specs.Fields.{IsCountedSolo, state_with, tree_of}
 use Rattle.alloc_tree.specs.TakeOver.{taken_over, take_over_from, take_over_result}
 use Rattle.alloc_tree.proofs.DoneLemmas.{IsDone, numbered_lawful}
@@ -110,7 +112,8 @@ released_by state of (Some chunk) fewer = record { drawn = omega arith; next = o
 release_adds : (state : TreeState) (of : Ref) → IsLawfulState state → AddsAtMost 0 state (release_result state of).state
 unfolding release_result
 release_adds state of lawful =
-    let fewer : references_in (release_result state of).state ≤ references_in state = omega (arith, references-call state (Release of) lawful) in
+    let fewer : references_in (release_result state of).state ≤ references_in state =
+    omega (arith, references-call state (Release of) lawful) in
     released_by state of (referred_chunk state of) fewer
 
 -- nor does taking over, which changes the owner alone
@@ -119,7 +122,11 @@ taken_adds : (state : TreeState) (target : AllocId) (chunk : Chunk) → IsLawful
 taken_adds state target chunk lawful is = record {
   drawn = omega arith;
   next = omega arith;
-  references = omega (arith, sum_by-with_chunk total_on chunk.number (record chunk { owner = target }) chunk state.chunks refl lawful.in_order is);
+  references = omega (
+    arith,
+    sum_by-with_chunk total_on chunk.number (record chunk { owner = target }) chunk state.chunks refl
+        lawful.in_order is,
+  );
 }
 
 take_over_found : (state : TreeState) (of : Ref) (target : AllocId) (found : Option Chunk) → IsLawfulState state
@@ -132,7 +139,8 @@ take_over_found state of target (Some chunk) lawful is =
     (λ _. taken_adds state target chunk lawful (ap (chunk_at state.chunks) number ∙ is))
     (λ _. record { drawn = omega arith; next = omega arith; references = omega arith })
 
-take_over_adds : (state : TreeState) (of : Ref) (target : AllocId) → IsLawfulState state → AddsAtMost 0 state (take_over_result state of target).state
+take_over_adds : (state : TreeState) (of : Ref) (target : AllocId) → IsLawfulState state
+    → AddsAtMost 0 state (take_over_result state of target).state
 take_over_adds state of target lawful = take_over_found state of target (chunk_at state.chunks of.chunk) lawful refl
 
 -- a tree with its root alone has no chunk, and the root had its number from the start

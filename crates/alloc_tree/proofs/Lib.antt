@@ -26,3 +26,10 @@ mod ReleaseLemmas
 mod ChildLemmas
 mod CloseLemmas
 mod HeadroomLemmas
+mod SoloNodeLemmas
+mod SoloRefusalLemmas
+mod SoloGrantLemmas
+mod SoloShareLemmas
+mod SoloCallLemmas
+mod SoloRunLemmas
+pub mod SoloPayLemmas

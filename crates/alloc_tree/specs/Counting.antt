@@ -27,7 +27,7 @@ pub record CountsCalls (tree : MeasuredTree) : Type 0 where
 abbrev pub HasCallsLeft : MeasuredTree → Type 0
 HasCallsLeft tree = tree.calls + 1 < most_calls
 
--- a request that charges bytes at an open allocator, and so draws a number: it is rounded to some, and not to too many
+-- a request that charges bytes, and so draws a number: it is rounded to some, and not to too many
 pub record ChargesBytes (state : TreeState) (at : AllocId) (request : ℕ) : Type 0 where
   pub some : 1 ≤ rounded_size (rounding_at state at.0) request
   pub few : rounded_size (rounding_at state at.0) request ≤ LARGEST

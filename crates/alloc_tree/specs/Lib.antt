@@ -7,3 +7,6 @@ pub mod Placed
 pub mod Walk
 pub mod Counting
 pub mod Fields
+pub mod SoloView
+pub mod SoloMeaning
+pub mod SoloCalls

@@ -4,7 +4,8 @@ ghost use Rattle.mem_model.specs.declared.charge.Charge.{Charge};
 ghost use Rattle.mem_model.specs.TreeNode.{IsAllocatorTree};
 ghost use Rattle.mem_model.specs.Balance.{Balances, ExceedsByAmount};
 ghost use Rattle.alloc_tree.specs.Rows.{nodes_in, held_by, peaks_in, row_at, HoldCharges, IsOpenAt};
-ghost use Rattle.alloc_tree.specs.Walk.{KeepsNodes, AddsCharge, AnswersRequest, MovesCharge, ForcesCharge, MovesAmount, charge_sample, peak_refusal, refusal_after, with_charge};
+ghost use Rattle.alloc_tree.specs.Walk.{KeepsNodes, AddsCharge, AnswersRequest, MovesCharge, ForcesCharge, MovesAmount};
+ghost use Rattle.alloc_tree.specs.Walk.{charge_sample, peak_refusal, refusal_after, with_charge};
 
 use crate::row::Row;
 use crate::uses::row_of;

@@ -42,8 +42,10 @@ impl SoloTree {
         requires open { is_open self.old.state at.0 ≡ true }
         requires some_bytes { 1 ≤ size }
         requires few_bytes { size ≤ LARGEST }
-        ensures answer { result ≢ Err BufferRefused.NoMemory → result ≡ (charge_result self.old.state (record { at = at; amount = size })).answer }
-        ensures after { result ≢ Err BufferRefused.NoMemory → IsAfterCall self.old (charge_result self.old.state (record { at = at; amount = size })) self.new }
+        ensures answer { result ≢ Err BufferRefused.NoMemory
+            → result ≡ (charge_result self.old.state (record { at = at; amount = size })).answer }
+        ensures after { result ≢ Err BufferRefused.NoMemory
+            → IsAfterCall self.old (charge_result self.old.state (record { at = at; amount = size })) self.new }
         ensures no_memory { result ≡ Err BufferRefused.NoMemory → self.new ≡ self.old }
         ensures counted { self.new.calls ≡ count_after self.old.calls (self.new.state.drawn - self.old.state.drawn) }
     {

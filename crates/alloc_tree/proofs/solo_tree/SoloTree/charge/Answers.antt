@@ -40,7 +40,8 @@ refused c =
 
 pub invariant_of-self-in-Err : goal.invariant_of-self-in-Err
 invariant_of-self-in-Err c =
-    charge_counted c.self.invariant c.self.view_is (record { at = c.args.at; amount = c.args.size }) (refused c) c.one_more-self-inside.ensures
+    charge_counted c.self.invariant c.self.view_is (record { at = c.args.at; amount = c.args.size }) (refused c)
+    c.one_more-self-inside.ensures
 
 pub returns-in-Err-clause-answer : goal.returns-in-Err-clause-answer
 returns-in-Err-clause-answer c = λ _. (refused c).told
@@ -58,7 +59,12 @@ add_use-requires-clause-made c =
 pub add_use-requires-clause-fits : goal.add_use-requires-clause-fits
 add_use-requires-clause-fits c =
     let same = ap (λ (uses : ℕ → ℕ). uses c.args.at.0) c.request.ensures.kept.uses in
-    omega (arith, same, few_uses c.self.invariant.sound c.args.at.0 (omega (arith, drawn_here c.self.inside c.self.view_is, c.requires.numbers)))
+    omega (
+      arith,
+      same,
+      few_uses c.self.invariant.sound c.args.at.0
+          (omega (arith, drawn_here c.self.inside c.self.view_is, c.requires.numbers)),
+    )
 
 given : (c : goal.After-add_use)
     → IsDone c.args.self.now (charge_result c.args.self.now.state (record { at = c.args.at; amount = c.args.size }))
@@ -80,7 +86,8 @@ given c =
 
 pub invariant_of-self-2 : goal.invariant_of-self-2
 invariant_of-self-2 c =
-    charge_counted c.self.invariant c.self.view_is (record { at = c.args.at; amount = c.args.size }) (given c) c.one_more-self-inside.ensures
+    charge_counted c.self.invariant c.self.view_is (record { at = c.args.at; amount = c.args.size }) (given c)
+    c.one_more-self-inside.ensures
 
 pub returns-clause-answer : goal.returns-clause-answer
 returns-clause-answer c = λ _. (given c).told

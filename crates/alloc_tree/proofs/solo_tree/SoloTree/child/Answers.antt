@@ -53,7 +53,8 @@ refused c =
     seen (λ s. child_result s c.args.parent c.args.reservation c.args.limit) c.self.view_is
     (reservation_refused c.self.invariant.sound c.args.parent c.args.reservation c.args.limit _ c.if-reservation-limit.false open_
     c.request.new.self c.in-Err.full
-    c.if-number-ge-MOST_ALLOCATORS.false c.request.ensures.kept (answers (charges_of c.self.inside.chunks) c.self.invariant.sound.numbers.held))
+    c.if-number-ge-MOST_ALLOCATORS.false c.request.ensures.kept
+    (answers (charges_of c.self.inside.chunks) c.self.invariant.sound.numbers.held))
 
 pub invariant_of-self-in-Err : goal.invariant_of-self-in-Err
 invariant_of-self-in-Err c =
@@ -80,7 +81,8 @@ made c =
     let answers = rw c.in_default.is at c.request.ensures.answers in
     let uses = rw (c.put.ensures, c.child.ensures) at c.add_use.ensures.uses in
     seen (λ s. child_result s c.args.parent c.args.reservation c.args.limit) c.self.view_is
-    (child_was_made c.self.invariant.sound c.args.parent c.args.reservation c.args.limit _ c.if-reservation-limit.false open_ c.request.new.self
+    (child_was_made c.self.invariant.sound c.args.parent c.args.reservation c.args.limit _ c.if-reservation-limit.false open_
+    c.request.new.self
     c.add_use.new.self
     c.requires.reservation c.requires.limit c.if-number-ge-MOST_ALLOCATORS.false c.request.ensures.kept
     (answers (charges_of c.self.inside.chunks) c.self.invariant.sound.numbers.held) uses)

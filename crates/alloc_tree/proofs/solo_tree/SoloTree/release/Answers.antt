@@ -83,7 +83,8 @@ moved : (c : goal.After-drop_use-in-Moved)
     }) (Ok true)
 moved c =
     let read = read_for_release c.self.invariant.sound c.args.of c.in-Some.ensures.after c.release.ensures.left in
-    let moves = c.move_charge.ensures.moved (charges_of c.self.inside.chunks) (charges_of c.release.new.self) c.self.invariant.sound.numbers.held
+    let moves = c.move_charge.ensures.moved (charges_of c.self.inside.chunks) (charges_of c.release.new.self)
+    c.self.invariant.sound.numbers.held
     (charge_moves read.1 c.in-Moved.next c.in-Moved.is) in
     seen (λ s. release_result s c.args.of) c.self.view_is
     (moved_done read.1 c.move_charge.new.self c.drop_use-in-Moved.new.self c.in-Moved.next c.move_charge.result c.in-Moved.is

@@ -39,7 +39,8 @@ again c =
     let h = referred c.args.of (chunk_of (c.args.of.chunk, c.in-Some.ledgers.now)) c.self.invariant.sound.lawful (sym c.in-Some.ensures) in
     let open_ = open_here c.self.inside c.args.target.0 c.self.view_is ∙ sym c.is_open.ensures ∙ c.if-not-is_open.false in
     seen (λ s. retain_result s c.args.of c.args.target) c.self.view_is
-    (retained_again c.self.invariant.sound h c.args.target open_ c.retain.new.self _ (omega (arith, c.count-count.ensures, c.if-count-gt0.true))
+    (retained_again c.self.invariant.sound h c.args.target open_ c.retain.new.self _
+    (omega (arith, c.count-count.ensures, c.if-count-gt0.true))
     c.in-Ok.ensures.retained)
 
 pub invariant_of-self-then-count-gt0 : goal.invariant_of-self-then-count-gt0

@@ -10,7 +10,8 @@ use Rattle.alloc_tree.proofs.solo_tree.SoloTree.take_over.Goals as goal
 
 pub move_charge-fits-requires : goal.move_charge-fits-requires
 move_charge-fits-requires c =
-    let read = read_for_move c.args.of c.args.target c.in-Some.ledgers.now c.owner.result c.self.invariant.sound c.self.view_is c.requires.refers
+    let read = read_for_move c.args.of c.args.target c.in-Some.ledgers.now c.owner.result c.self.invariant.sound c.self.view_is
+    c.requires.refers
     c.in-Some.ensures.chunk c.owner.ensures c.if-ne.ensures c.if-eq.ensures c.size-size.ensures in
     let chunks = c.self.inside.chunks in
     record {
@@ -30,10 +31,12 @@ whole : (c : goal.After-make_owner)
     → IsDone c.args.self.now (take_over_result c.args.self.now.state c.args.of c.args.target)
     (record c.self.inside { rows = c.move_charge-fits.new.self; chunks = c.make_owner.new.self }) c.move_charge-fits.result
 whole c =
-    let read = read_for_move c.args.of c.args.target c.in-Some.ledgers.now c.owner.result c.self.invariant.sound c.self.view_is c.requires.refers
+    let read = read_for_move c.args.of c.args.target c.in-Some.ledgers.now c.owner.result c.self.invariant.sound c.self.view_is
+    c.requires.refers
     c.in-Some.ensures.chunk c.owner.ensures c.if-ne.ensures c.if-eq.ensures c.size-size.ensures in
     let left = charges_of (chunks_moved c.self.inside.chunks (chunk_of (c.args.of.chunk, c.in-Some.ledgers.now)) c.args.target) in
-    let moves = c.move_charge-fits.ensures.moved (charges_of c.self.inside.chunks) left c.self.invariant.sound.numbers.held (charge_moves read) in
+    let moves = c.move_charge-fits.ensures.moved (charges_of c.self.inside.chunks) left c.self.invariant.sound.numbers.held
+    (charge_moves read) in
     seen (λ s. take_over_result s c.args.of c.args.target) c.self.view_is
     (taken_over_done read c.move_charge-fits.new.self c.make_owner.new.self c.move_charge-fits.result c.move_charge-fits.ensures.kept moves
     c.make_owner.ensures)
