@@ -1,2 +1,4 @@
 -- The lemmas of this crate.
 pub mod CallLemmas
+pub mod StoringLemmas
+pub mod TreeStoringLemmas

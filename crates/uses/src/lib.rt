@@ -2,9 +2,11 @@
 #![tactic(auto)]
 
 mod allocators;
+mod memories;
 mod references;
 mod reports;
 
 pub use allocators::{ask, finish, open_operator, open_query};
+pub use memories::{store_all, store_in_tree};
 pub use references::{hand_over, scan_and_filter};
 pub use reports::{is_own_report_lawful, name_operator};
