@@ -1,0 +1,3 @@
+-- The definitions of this crate, those first that others stand on.
+pub mod Cells
+pub mod Buffers

@@ -1,0 +1,34 @@
+//! What a query speaks of: cells and rows, tables and their columns, plans, and how long the buffers of a column are.
+#![tactic(auto)]
+
+mod bounds;
+mod cell;
+mod cells;
+mod column;
+mod columns;
+mod kind;
+mod lengths;
+mod op;
+mod output;
+mod picks;
+mod plan;
+mod row;
+mod test;
+mod tests_list;
+mod text;
+
+pub use bounds::{MOST_ROWS, MOST_TEXT_BYTES};
+pub use cell::Cell;
+pub use cells::Cells;
+pub use column::Column;
+pub use columns::Columns;
+pub use kind::Kind;
+pub use lengths::{column_lengths, validity_length};
+pub use op::Op;
+pub use output::Output;
+pub use picks::Picks;
+pub use plan::Plan;
+pub use row::Row;
+pub use test::Test;
+pub use tests_list::Tests;
+pub use text::Text;
