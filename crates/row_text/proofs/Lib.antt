@@ -1,0 +1,7 @@
+mod NumberLemmas
+mod RecordLemmas
+mod StoredLemmas
+mod TableLemmas
+pub mod TypedLemmas
+pub mod SliceLemmas
+pub mod PrintLemmas
