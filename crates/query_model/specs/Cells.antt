@@ -1,5 +1,5 @@
 -- Cells, rows and their columns. A row is the list of its cells, one a column.
-use Rattle.std.specs.Prelude.{ℕ, List, [], ◌∷◌, map, slice_index_or, IsUtf8, ⊤}
+use Rattle.std.specs.Prelude.{◌<◌, ◌^◌, ℕ, ℤ, pos, negsuc, List, [], ◌∷◌, map, slice_index_or, IsUtf8, ⊤}
 use Rattle.std.specs.Fmt.{signed_decimal}
 use Rattle.query_model.specs.declared.cell.Cell.{Cell}
 use Rattle.query_model.specs.declared.cell.Cell.TheVariants.{Null, Int, Sum, Text}
@@ -21,15 +21,25 @@ printed (Int n) = signed_decimal n
 printed (Sum n) = signed_decimal n
 printed (Text bytes) = bytes
 
+-- a number of 64 bits
+abbrev pub IsInt : ℤ → Type 0
+IsInt (pos n) = n < 2 ^ 63
+IsInt (negsuc n) = n < 2 ^ 63
+
+-- a number of 128 bits
+abbrev pub IsSum : ℤ → Type 0
+IsSum (pos n) = n < 2 ^ 127
+IsSum (negsuc n) = n < 2 ^ 127
+
 -- a column of this kind may have this cell: numbers may be null, texts are UTF-8
 abbrev pub IsOfKind : Kind → Cell → Type 0
 IsOfKind kind.Int Null = ⊤
-IsOfKind kind.Int (Int n) = ⊤
+IsOfKind kind.Int (Int n) = IsInt n
 IsOfKind kind.Int (Sum n) = ⊥
 IsOfKind kind.Int (Text bytes) = ⊥
 IsOfKind kind.Sum Null = ⊤
 IsOfKind kind.Sum (Int n) = ⊥
-IsOfKind kind.Sum (Sum n) = ⊤
+IsOfKind kind.Sum (Sum n) = IsSum n
 IsOfKind kind.Sum (Text bytes) = ⊥
 IsOfKind kind.Text Null = ⊥
 IsOfKind kind.Text (Int n) = ⊥

@@ -5,3 +5,6 @@ mod TableLemmas
 pub mod TypedLemmas
 pub mod SliceLemmas
 pub mod PrintLemmas
+pub mod IntLemmas
+pub mod OneReadingLemmas
+pub mod AgainLemmas

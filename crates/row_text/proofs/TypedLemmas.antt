@@ -5,18 +5,19 @@ use Rattle.std.specs.Str.{is_utf8}
 use Rattle.std.proofs.lemmas.Bool.{cases_Bool}
 use Rattle.std.proofs.lemmas.List.Elements.{All-cons, All-nil}
 use Rattle.std.proofs.lemmas.Str.{IsUtf8-from_is_utf8}
-use Rattle.query_model.specs.Cells.{IsOfKind, IsRow}
+use Rattle.query_model.specs.Cells.{IsInt, IsOfKind, IsRow}
 use Rattle.query_model.specs.declared.cell.Cell.{Cell}
 use Rattle.query_model.specs.declared.cell.Cell.TheVariants.{Null, Int, Text}
 use Rattle.query_model.specs.declared.kind.Kind.{Kind}
 use Rattle.query_model.specs.declared.kind.Kind.TheVariants as kind
+use Rattle.row_text.proofs.IntLemmas.{int-range}
 use Rattle.row_text.specs.Fields.{cell_of, cells_of, int_of, joined}
 use Rattle.row_text.specs.Rows.{AreRows}
 use Rattle.row_text.specs.Table.{EachReads}
 
-number-typed : (number : Option ℤ) (cell : Cell) → option_map Int number ≡ Some cell → IsOfKind kind.Int cell
-number-typed None cell e = cc e
-number-typed (Some n) cell e = (let same : Int n ≡ cell = cc in subst (IsOfKind kind.Int) same tt)
+number-typed : (number : Option ℤ) (cell : Cell) → ((n : ℤ) → number ≡ Some n → IsInt n) → option_map Int number ≡ Some cell → IsOfKind kind.Int cell
+number-typed None cell h e = cc e
+number-typed (Some n) cell h e = (let same : Int n ≡ cell = cc in subst (IsOfKind kind.Int) same (h n refl))
 
 text-typed : (field : List ℕ) (cell : Cell) → cell_of kind.Text field ≡ Some cell → IsOfKind kind.Text cell
 text-typed field cell e = elim (cases_Bool (is_utf8 field)) [
@@ -30,7 +31,7 @@ text-typed field cell e = elim (cases_Bool (is_utf8 field)) [
 -- a cell that was read
 pub cell-typed : (kind : Kind) (field : List ℕ) (cell : Cell) → cell_of kind field ≡ Some cell → IsOfKind kind cell
 cell-typed kind.Int [] cell e = (let same : Null ≡ cell = cc in subst (IsOfKind kind.Int) same tt)
-cell-typed kind.Int (byte ∷ bytes) cell e = number-typed (int_of (byte ∷ bytes)) cell e
+cell-typed kind.Int (byte ∷ bytes) cell e = number-typed (int_of (byte ∷ bytes)) cell (int-range (byte ∷ bytes)) e
 cell-typed kind.Sum field cell e = cc e
 cell-typed kind.Text field cell e = text-typed field cell e
 

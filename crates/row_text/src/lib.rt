@@ -4,6 +4,7 @@
 mod answer;
 mod cell_column;
 mod column_slice;
+mod laws;
 mod number;
 mod read;
 mod records;
@@ -14,6 +15,7 @@ mod rows_slice;
 pub use answer::answer_text;
 pub use column_slice::ColumnSlice;
 pub use query_model::{Cell, Cells, Column, Kind, Row, Text};
+pub use laws::{bytes_have_one_reading, written_rows_are_read_back};
 pub use read::read_rows;
 pub use refused::RowsRefused;
 pub use rows::Rows;
