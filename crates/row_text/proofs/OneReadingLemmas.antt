@@ -77,5 +77,5 @@ one-bad-row columns bytes (suc number) (suc other) a b =
     let down = earlier columns bytes (suc other) (suc number) b a in
     elim (cases_lt (suc number) (suc other)) [
       | inl less ↦ absurd (up less)
-      | inr past ↦ elim (cases_lt (suc other) (suc number)) [ | inl less ↦ absurd (down less) | inr under ↦ omega (arith, past, under) ]
+      | inr past ↦ elim (cases_lt (suc other) (suc number)) [ inl less ↦ absurd (down less) | inr under ↦ omega (arith, past, under) ]
     ]

@@ -137,6 +137,45 @@ row-fields table count from len row n columns fields same stored all within past
     ap (λ (t : Table). get_or t.rows (from + row) []) same ∙ row-there count (from + row) columns stored.long inside in
     e ∙ ap (fields_at (from + row)) (take_all n columns past) ∙ sym (fields-there (from + row) columns) ∙ ap fields_of_row (sym row_is) ∙ ap fields_of_row (sym part)
 
+-- the number of a place, as a cell
+pub number-at : {N : Type 0} (cell : N → Cell) (values : List N) (known : List Bool) (place : ℕ) (d : N) → length values ≡ length known → place < length values
+    → get_or (numbers cell values known) place Null ≡ (if get_or known place false then cell (get_or values place d) else Null)
+unfolding numbers
+number-at cell [] known place d same within = absurd (omega arith)
+number-at cell (v ∷ vs) [] place d same within = absurd (omega arith)
+number-at cell (v ∷ vs) (m ∷ ms) zero d same within = refl
+number-at cell (v ∷ vs) (m ∷ ms) (suc place) d same within = number-at cell vs ms place d (omega arith) (omega arith)
+
+pub text-there : (bytes ends : List ℕ) (place : ℕ) → place < length ends → get_or (texts bytes ends) place Null ≡ Text (get_or (cut_from 0 ends bytes) place [])
+text-there bytes ends place within =
+    let inside : place < length (cut_from 0 ends bytes) = rw (cuts-length 0 ends bytes) within in
+    get_or-map Text (cut_from 0 ends bytes) place [] Null inside
+
+-- the cells of these columns at a place
+abbrev pub cells_at : ℕ → List ColumnCells → List Cell
+cells_at place columns = map (λ column. get_or column.cells place Null) columns
+
+pub cells-more : (place : ℕ) (columns : List ColumnCells) (n : ℕ) (column : ColumnCells) (old new : List Cell) → n < length columns → column ≡ get_or columns n column
+    → old ≡ cells_at place (take n columns) → new ≡ old ++ get_or column.cells place Null ∷ [] → new ≡ cells_at place (take (n + 1) columns)
+cells-more place columns n column old new within is e f =
+    f ∙ ap (λ (t : List Cell). t ++ get_or column.cells place Null ∷ []) e
+    ∙ ap (λ (c : ColumnCells). cells_at place (take n columns) ++ get_or c.cells place Null ∷ []) is
+    ∙ sym (map-append (λ (c : ColumnCells). get_or c.cells place Null) (take n columns) (get_or columns n column ∷ []))
+    ∙ ap (cells_at place) (sym (take_more columns n column within))
+
+pub row-cells : (table : Table) (count from len row n : ℕ) (columns : List ColumnCells) (cells : List Cell)
+    → table ≡ table_of count columns → IsStoredTable count columns → from + len ≤ length table.rows → row < length (part_of from len table).rows
+    → length columns ≤ n → cells ≡ cells_at (from + row) (take n columns) → cells ≡ get_or (part_of from len table).rows row []
+row-cells table count from len row n columns cells same stored all within past e =
+    let rows : length table.rows ≡ count = stored-length table count columns same stored in
+    let there : row < len = part-row table from len row all within in
+    let inside : from + row < count = omega (arith, rows, there, all) in
+    let part : get_or (take len (drop from table.rows)) row [] ≡ get_or table.rows (from + row) [] =
+    get_or-take len (drop from table.rows) row [] there ∙ get_or-drop from table.rows row [] in
+    let row_is : get_or table.rows (from + row) [] ≡ cells_at (from + row) columns =
+    ap (λ (t : Table). get_or t.rows (from + row) []) same ∙ row-there count (from + row) columns stored.long inside in
+    e ∙ ap (cells_at (from + row)) (take_all n columns past) ∙ sym row_is ∙ sym part
+
 -- a record more was written
 pub appended : (old new : List ℕ) (o : Option (List ℕ)) → Appends (Some old) o new → o ≡ Some (old ++ new)
 appended old new None h = absurd h

@@ -14,7 +14,7 @@ use crate::column_slice::ColumnSlice;
 use crate::number::read_int;
 use csv::ByteRecord;
 use itoa::{Buffer, Integer};
-use query_model::{Kind, MOST_TEXT_BYTES};
+use query_model::{Cell, Kind, MOST_TEXT_BYTES, Text};
 use std::alloc::{AllocError, Global};
 use std::marker::Model;
 
@@ -95,6 +95,24 @@ impl CellColumn {
         }
     }
 
+    /// The cell of a place, by itself.
+    pub(crate) fn cell(&self, alloc: Global, place: usize) -> Result<Cell, AllocError>
+        requires { place < length self.now.cells }
+        ensures { IfOk result (λ made. made ≡ get_or self.now.cells place cell.Null) }
+    {
+        match &self.stored {
+            Stored::Ints(values, known) => {
+                Ok(int_at(values.as_slice(), known.as_slice(), place))
+            }
+            Stored::Sums(values, known) => {
+                Ok(sum_at(values.as_slice(), known.as_slice(), place))
+            }
+            Stored::Texts(bytes, ends) => {
+                text_cell(alloc, text_at(bytes.as_slice(), ends.as_slice(), place))
+            }
+        }
+    }
+
     /// So many of the cells, from a place on.
     pub(crate) fn part(&self, from: usize, len: usize) -> ColumnSlice<'_>
         requires { from + len ≤ length self.now.cells }
@@ -139,6 +157,42 @@ fn print_number<I: Integer>(
     }
     let mut buffer = Buffer::new();
     fields.push_field(buffer.format(values[place]).as_bytes())
+}
+
+// The number of a place as a cell.
+fn int_at(values: &[i64], known: &[bool], place: usize) -> Cell
+    requires within { place < length values.now }
+    requires marked { length values.now ≡ length known.now }
+    ensures { result ≡ get_or (numbers cell.Int values.now known.now) place cell.Null }
+{
+    if known[place] {
+        Cell::Int(values[place])
+    } else {
+        Cell::Null
+    }
+}
+
+// The same of a sum.
+fn sum_at(values: &[i128], known: &[bool], place: usize) -> Cell
+    requires within { place < length values.now }
+    requires marked { length values.now ≡ length known.now }
+    ensures { result ≡ get_or (numbers cell.Sum values.now known.now) place cell.Null }
+{
+    if known[place] {
+        Cell::Sum(values[place])
+    } else {
+        Cell::Null
+    }
+}
+
+// A copy of a text as a cell.
+fn text_cell(alloc: Global, bytes: &[u8]) -> Result<Cell, AllocError>
+    ensures { IfOk result (λ made. made ≡ cell.Text bytes.now) }
+{
+    match str::from_utf8(bytes) {
+        Ok(text) => Ok(Cell::Text(Text::new(alloc, text)?)),
+        Err(_) => Err(AllocError),
+    }
 }
 
 // The text of a place.

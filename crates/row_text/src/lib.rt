@@ -14,8 +14,8 @@ mod rows_slice;
 
 pub use answer::answer_text;
 pub use column_slice::ColumnSlice;
-pub use query_model::{Cell, Cells, Column, Kind, Row, Text};
 pub use laws::{bytes_have_one_reading, written_rows_are_read_back};
+pub use query_model::{Cell, Cells, Column, Kind, Row, Text};
 pub use read::read_rows;
 pub use refused::RowsRefused;
 pub use rows::Rows;

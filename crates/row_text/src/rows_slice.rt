@@ -1,5 +1,5 @@
 //! Ranges of rows.
-ghost use Rattle.std.specs.Prelude.{◌≡◌, ◌≤◌, ◌<◌, ◌-◌, [], length, get_or, IfSome, IfNone, OnOk};
+ghost use Rattle.std.specs.Prelude.{◌≡◌, ◌≤◌, ◌<◌, ◌-◌, [], length, get_or, IfOk, IfSome, IfNone, OnOk};
 ghost use Rattle.csv.specs.Records.{fields_of};
 ghost use Rattle.row_text.specs.Answer.{fields_of_row};
 ghost use Rattle.row_text.specs.Rows.{AreRows, IsRange, part_of};
@@ -8,7 +8,9 @@ ghost use Rattle.row_text.specs.Slices.{IsColumnOf};
 use crate::column_slice::ColumnSlice;
 use crate::rows::Rows;
 use csv::ByteRecord;
-use std::alloc::AllocError;
+use mem_num::NoMemory;
+use query_model::{Cell, Cells, Row};
+use std::alloc::{AllocError, Global};
 use std::marker::Model;
 
 /// A range of rows where they lie, seen as rows are. A batch of rows is handed on so, without a copy.
@@ -46,6 +48,34 @@ impl<'a> RowsSlice<'a> {
     {
         let _all = self.rows.len();
         self.to - self.from
+    }
+
+    /// A copy of a row, by itself.
+    pub fn row(&self, alloc: Global, row: usize) -> Result<Row, NoMemory>
+        requires { row < length self.now.rows }
+        ensures { IfOk result (λ made. made.cells ≡ get_or self.now.rows row []) }
+    {
+        match self.cells_of(alloc, row) {
+            Ok(cells) => Ok(Row {
+                cells: Cells::new(cells),
+            }),
+            Err(AllocError) => Err(NoMemory),
+        }
+    }
+
+    // Copies of the cells of a row.
+    fn cells_of(&self, alloc: Global, row: usize) -> Result<Vec<Cell>, AllocError>
+        requires { row < length self.now.rows }
+        ensures { IfOk result (λ made. made.items ≡ get_or self.now.rows row []) }
+    {
+        let mut cells = Vec::new(alloc);
+        let _end = self.to;
+        let place = self.from + row;
+        let columns = self.rows.columns();
+        'columns: for column in columns {
+            cells.push(column.cell(alloc, place)?)?;
+        }
+        Ok(cells)
     }
 
     /// The cells of a column, by its number from 0 on, where there is one. Takes no memory.

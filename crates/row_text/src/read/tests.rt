@@ -1,7 +1,7 @@
 use super::read_rows;
 use crate::column_slice::ColumnSlice;
 use crate::refused::RowsRefused;
-use query_model::{Column, Kind, Text};
+use query_model::{Cell, Column, Kind, Text};
 use std::alloc::{AllocError, Global};
 use std::test::Fail;
 
@@ -47,6 +47,11 @@ fn rows_lie_column_by_column(rt: HostRuntime) -> Result<(), Fail> {
     assert_eq!(rt; ends, [4, 10, 14, 20, 24].as_slice());
     assert_eq!(rt; bytes, b"oslobergenoslobergenoslo".as_slice());
     assert!(rt; rows.as_slice().column(2).is_none());
+    let row = rows.as_slice().row(a, 1).expect(&rt, "a row");
+    match row.cells.as_slice() {
+        [Cell::Text(city), Cell::Null] => assert!(rt; city.is(b"bergen")),
+        _ => panic!(rt; "a text and a null"),
+    }
     Ok(())
 }
 
