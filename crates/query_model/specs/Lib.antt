@@ -1,3 +1,4 @@
 -- The definitions of this crate, those first that others stand on.
 pub mod Cells
 pub mod Buffers
+pub mod Bytes

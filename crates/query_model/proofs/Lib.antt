@@ -1,0 +1,2 @@
+-- The lemmas of this crate, those first that others stand on.
+mod BytesLemmas
