@@ -10,7 +10,9 @@ pub mod OpenLemmas
 pub mod CloseLemmas
 pub mod LawLemmas
 pub mod OrderLemmas
+pub mod SameClaimsLemmas
 pub mod HeadLemmas
+pub mod FixedTreeLemmas
 pub mod BoundLemmas
 pub mod WeightLemmas
 pub mod RestLemmas

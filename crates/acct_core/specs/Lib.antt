@@ -10,6 +10,8 @@ pub mod Applies
 pub mod AtRest
 pub mod Weights
 pub mod Heads
+pub mod SameClaims
+pub mod FixedTrees
 pub mod Bounds
 pub mod Stages
 pub mod Slots

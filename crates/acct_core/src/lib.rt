@@ -3,6 +3,7 @@
 #![tactic(auto)]
 
 mod event;
+mod fixed_laws;
 mod head_laws;
 mod laws;
 mod level_step;
@@ -16,6 +17,11 @@ mod step;
 mod told;
 
 pub use event::Event;
+pub use fixed_laws::{
+    claim_without_a_charge_may_come_and_go, first_step_of_a_release_keeps_a_fixed_tree,
+    first_step_of_a_request_keeps_a_fixed_tree, given_tree_is_lawful,
+    held_claim_may_forget_its_steps, same_claims_are_as_lawful,
+};
 pub use head_laws::{
     child_of_the_first_claim_keeps_the_law, closing_on_the_first_claim_keeps_the_law,
     event_of_the_first_claim_keeps_the_law, stakes_are_in_the_root, use_less_keeps_the_law,
