@@ -1,0 +1,21 @@
+-- The lemmas of this crate.
+pub mod ViewLemmas
+pub mod RowLemmas
+pub mod ClaimLemmas
+pub mod AccountLemmas
+pub mod KeptLemmas
+pub mod SplitLemmas
+pub mod BoundLemmas
+pub mod StepLemmas
+pub mod LoadLemmas
+pub mod FallLemmas
+pub mod ForceLemmas
+pub mod CallLemmas
+pub mod ClimbLemmas
+pub mod ReleaseLemmas
+pub mod ChargeLemmas
+pub mod FillLemmas
+pub mod OpeningLemmas
+pub mod RefusalLemmas
+pub mod BudgetLemmas
+pub mod TokenLemmas

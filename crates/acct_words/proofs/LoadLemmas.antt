@@ -1,0 +1,217 @@
+-- Loads, and the drawing of a number, which change no account.
+use Rattle.std.proofs.Common.{◌≡◌, ℕ, ◌+◌, ◌%◌, ◌^◌, ◌<◌, ◌≤◌, Bool, true, false, cond, ◌==◌, List, [], ◌∷◌, ◌++◌, length, set, slice_index, refl, sym, ap, subst, arith, sum_by, All, mod-eq_of_lt, ne_eqb, get_or-set_same, get_or-set_other}
+use mathlib.Core.Option as option
+use mathlib.Core.Option.{some, none}
+use lib.ListN.{get_elem?}
+use Rattle.std.proofs.lemmas.List.{set-get_or}
+use Rattle.std.proofs.lemmas.List.Elements.{All-head, All-tail, All-nil, All-cons, All-append}
+use Rattle.std.proofs.lemmas.List.Sums.{sum_by-append, sum_by-cons, sum_by_push}
+use Rattle.atomic_table.specs.Table.{State, Me, Allows, step, keeps}
+use Rattle.acct_core.specs.Claims.{Claim, account}
+use Rattle.acct_core.specs.Lawful.{IsLawfulFixedTree}
+use Rattle.acct_core.specs.Phases.{size_of}
+use Rattle.acct_words.specs.Entries.StepKind.{LoadWord, DrawChunkNumber}
+use Rattle.acct_words.specs.Entries.{Entry, InHistory}
+use Rattle.acct_words.specs.Views.{Start, Chunk, Body, View}
+use Rattle.acct_words.specs.declared.rule.Said.{Said}
+use Rattle.acct_words.specs.Places.{number_word, limit_word}
+use Rattle.acct_words.specs.Bodies.{nothing, of_view, made, numbered, chunk_sizes, bytes_left, turns_left}
+use Rattle.acct_words.specs.Rows.{charges_of, claims_of, rows_of}
+use Rattle.acct_words.specs.Moves.{drawing, reading, other_chunks, one_chunk, parting, parted}
+use Rattle.acct_words.specs.Rule.{IsHistory, IsGoodChunk, IsGoodView, IsSoundTable, KnowsHistory}
+use Rattle.acct_words.specs.Plays.{entry, stepping, Draws, Reads, Parts}
+use Rattle.acct_words.proofs.ViewLemmas.{at_most}
+use Rattle.acct_words.proofs.RowLemmas.{rows_of-before}
+use Rattle.acct_core.specs.SameClaims.{SameClaims}
+use Rattle.acct_core.proofs.SameClaimsLemmas.{same_from, same_self, same_then, same_path, All-left, All-right}
+use Rattle.acct_words.proofs.ClaimLemmas.{its_charges}
+use Rattle.acct_words.proofs.AccountLemmas.{claims_move}
+use Rattle.acct_words.proofs.KeptLemmas.{IsStep, step_legal, step_kept, good_longer}
+use Rattle.acct_words.proofs.StepLemmas.{steps_more}
+
+-- a load, which may change the token's own view
+module _ (start : Start) (s : State Said View) (homes : List (option.Option Said)) (id : ℕ) (v w : View) (k : IsSoundTable start s)
+    (at : get_elem? s.views id ≡ some v) (i : ℕ) where
+  abbrev e : Entry
+  e = entry (length k.history) i LoadWord (slice_index s.words i)
+
+  -- what it owes
+  pub record IsLoad : Type 1 where
+    pub claims : SameClaims (its_charges v) (its_charges w)
+    pub made : (f : Entry → ℕ) → of_view (made f) w ≡ of_view (made f) v + f e
+    pub bytes : of_view bytes_left w ≤ of_view bytes_left v
+    pub turns : of_view turns_left w ≤ of_view turns_left v
+    pub sizes : of_view chunk_sizes w ≤ of_view chunk_sizes v
+    pub numbers : (m : ℕ) → of_view (numbered m) w ≤ of_view (numbered m) v
+    pub good : IsGoodView (k.history ++ e ∷ []) w
+
+  -- it is a step
+  pub load_step : IsLoad → IsStep start s homes id v w k at i (slice_index s.words i) LoadWord
+  load_step c = record {
+    lawful = rw (set-get_or s.words i 0) (claims_move (rows_of start.tree 0 s.words) s.views id v w at c.claims k.accounts);
+    limits = λ m h. ap (λ (l : List ℕ). slice_index l (limit_word m)) (set-get_or s.words i 0);
+    next = (let q : slice_index (set s.words i (slice_index s.words i)) number_word ≡ slice_index s.words number_word =
+        ap (λ (l : List ℕ). slice_index l number_word) (set-get_or s.words i 0) in omega arith);
+    bounded = omega arith;
+    made = c.made;
+    bytes = (let p = c.bytes in omega arith);
+    turns = (let p = c.turns in omega arith);
+    sizes = (let p = c.sizes in omega arith);
+    numbers = λ m. (let p = c.numbers m in omega arith);
+    fresh = λ m ne. zero_cond (slice_index s.words i == m);
+    good = c.good;
+  }
+    where
+      zero_cond : (b : Bool) → ◌≡◌ {A = ℕ} (cond b 0 0) 0
+      zero_cond true = refl
+      zero_cond false = refl
+
+-- it keeps the rule
+pub load_kept : (start : Start) (s : State Said View) (homes : List (option.Option Said)) (id : ℕ) (v w : View) (k : IsSoundTable start s)
+    (at : get_elem? s.views id ≡ some v) (i : ℕ) → IsLoad start s homes id v w k at i
+    → IsSoundTable start (record { words = set s.words i (slice_index s.words i); homes = homes; views = set s.views id w })
+load_kept start s homes id v w k at i c = step_kept start s homes id v w k at i (slice_index s.words i) LoadWord
+    (load_step start s homes id v w k at i c)
+
+-- and what it tells of the history
+pub known_after : (start : Start) (s : State Said View) (homes : List (option.Option Said)) (id : ℕ) (v w : View)
+    (k : IsSoundTable start s) (at : get_elem? s.views id ≡ some v) (i : ℕ) → IsLoad start s homes id v w k at i → start ≡ w.start →
+    KnowsHistory w
+known_after start s homes id v w k at i c same = record {
+  history = k.history ++ entry (length k.history) i LoadWord (slice_index s.words i) ∷ [];
+  legal = subst (λ (x : Start). IsHistory x (k.history ++ entry (length k.history) i LoadWord (slice_index s.words i) ∷ [])) same
+      (step_legal start s homes id v w k at i (slice_index s.words i) LoadWord (load_step start s homes id v w k at i c));
+  own_steps = c.good.0.own_steps;
+  observed = c.good.0.observed;
+}
+
+-- the limit of a level is read
+pub reads_allowed : (slots id : ℕ) (me : Me Said View) (m : ℕ) → m < length me.0.start.tree →
+    Allows (IsSoundTable me.0.start) slots id me (limit_word m) (λ n. n) (Reads (step slots (limit_word m) 0 0 none) me)
+reads_allowed slots id me m there s k _ at _ =
+    let e = entry (length k.history) (limit_word m) LoadWord (slice_index s.words (limit_word m)) in
+    let w = stepping reading me.0 e in (
+      w,
+      keeps,
+      tt,
+      load_kept me.0.start s s.homes id me.0 w k at (limit_word m) (record {
+        claims = same_self (its_charges me.0);
+        made = λ f. (let q = sum_by_push f me.0.own.own_steps e in omega arith);
+        bytes = omega arith;
+        turns = omega arith;
+        sizes = omega arith;
+        numbers = λ m. omega arith;
+        good = (let old = k.tokens id me.0 at in (
+          record {
+            own_steps = steps_more k.history e me.0.own old.0 refl;
+            observed = (good_longer k.history e me.0.own old.0).observed;
+            chunks = old.0.chunks;
+          },
+          good_longer k.history e me.0.offer old.1,
+        ));
+      }),
+      (m, refl, (length k.history, refl), refl, k.layout.limits m there),
+    )
+
+-- the first chunk is offered to the next split
+pub parts_allowed : (slots id i : ℕ) (me : Me Said View) (k₀ : Chunk) (chunks : List Chunk) → me.0.own.chunks ≡ k₀ ∷ chunks →
+    me.0.offer ≡ nothing
+    → Allows (IsSoundTable me.0.start) slots id me i (λ n. n) (Parts (step slots i 0 0 none) me)
+parts_allowed slots id i me k₀ chunks is none_offered s k _ at _ =
+    let e = entry (length k.history) i LoadWord (slice_index s.words i) in
+    let w : View = record { start = me.0.start; own = parting me.0.own e; offer = parted me.0.own } in
+    let a : w.own.chunks ≡ chunks = ap other_chunks is in
+    let b : w.offer.chunks ≡ k₀ ∷ [] = ap one_chunk is in
+    let o : me.0.offer.chunks ≡ [] = ap (λ (b : Body). b.chunks) none_offered in
+    let same : (g : Chunk → ℕ) → sum_by g w.own.chunks + sum_by g w.offer.chunks ≡ sum_by g me.0.own.chunks + sum_by g me.0.offer.chunks =
+    λ g.
+    (let p = ap (sum_by g) a in let q = ap (sum_by g) b in let r = ap (sum_by g) is in let t = ap (sum_by g) o in let u =
+    sum_by-cons g k₀ chunks in omega arith) in
+    let old = k.tokens id me.0 at in let its = subst (All IsGoodChunk) is old.0.chunks in
+    let owed : IsLoad me.0.start s s.homes id me.0 w k at i = record {
+      claims = moved me.0 w is a b o;
+      made = λ f. (let q = sum_by_push f me.0.own.own_steps e in let z = ap (made f) none_offered in omega arith);
+      bytes = (let z = ap bytes_left none_offered in omega arith);
+      turns = (let z = ap turns_left none_offered in omega arith);
+      sizes = (let q = same (λ k. k.size) in omega arith);
+      numbers = λ m. (let q = same (λ k. cond (k.number == m) 1 0) in omega arith);
+      good = (
+        record {
+          own_steps = steps_more k.history e me.0.own old.0 refl;
+          observed = (good_longer k.history e me.0.own old.0).observed;
+          chunks = subst (All IsGoodChunk) (sym a) (All-tail IsGoodChunk k₀ chunks its);
+        },
+        record {
+          own_steps = All-nil (InHistory (k.history ++ e ∷ []));
+          observed = All-nil (InHistory (k.history ++ e ∷ []));
+          chunks =
+              subst (All IsGoodChunk) (sym b) (All-cons IsGoodChunk k₀ [] (All-head IsGoodChunk k₀ chunks its) (All-nil IsGoodChunk));
+        },
+      );
+    } in (
+      w,
+      keeps,
+      tt,
+      load_kept me.0.start s s.homes id me.0 w k at i owed,
+      (length k.history, refl, known_after me.0.start s s.homes id me.0 w k at i owed refl),
+    )
+  where
+    swapped : (xs ys : List Claim) → SameClaims ((xs ++ ys) ++ []) (ys ++ (xs ++ []))
+    swapped xs ys = same_from ((xs ++ ys) ++ []) (ys ++ (xs ++ []))
+        (λ f. (let a = sum_by-append f (xs ++ ys) [] in let b = sum_by-append f xs ys in let c = sum_by-append f ys (xs ++ []) in let d =
+        sum_by-append f xs [] in omega arith))
+        (λ P h. (let g = All-left P (xs ++ ys) [] h in All-append P ys (xs ++ []) (All-right P xs ys g)
+        (All-append P xs [] (All-left P xs ys g) (All-nil P))))
+
+    moved : (v w : View) → v.own.chunks ≡ k₀ ∷ chunks → w.own.chunks ≡ chunks → w.offer.chunks ≡ k₀ ∷ [] → v.offer.chunks ≡ [] →
+        SameClaims (its_charges v) (its_charges w)
+    moved v w i a b o = same_then (its_charges v) ((k₀.charges ++ charges_of chunks) ++ []) (its_charges w)
+        (same_path (its_charges v) ((k₀.charges ++ charges_of chunks) ++ []) (λ j. charges_of (i j) ++ charges_of (o j)))
+        (same_then ((k₀.charges ++ charges_of chunks) ++ []) (charges_of chunks ++ (k₀.charges ++ [])) (its_charges w)
+        (swapped k₀.charges (charges_of chunks))
+        (same_path (charges_of chunks ++ (k₀.charges ++ [])) (its_charges w) (λ j. charges_of (sym a j) ++ charges_of (sym b j))))
+
+-- a number is drawn
+pub draws_allowed : (slots id : ℕ) (me : Me Said View) → 1 ≤ me.0.own.turns → Allows (IsSoundTable me.0.start) slots id me number_word
+    (λ n. (n + 1) % 2 ^ 64) (Draws (step slots number_word 1 0 none) me)
+draws_allowed slots id me turn s k _ at _ =
+    let n : ℕ = slice_index s.words number_word in
+    let e = entry (length k.history) number_word DrawChunkNumber n in
+    let w = stepping drawing me.0 e in
+    let few : n < 2 ^ 32 = (let a = k.numbers.next in let b = k.budget.turns in let c = k.layout.small.turns in let d =
+    at_most (of_view turns_left) s.views id me.0 at in omega arith) in
+    let some_number : 1 ≤ n = (let a = k.numbers.next in omega arith) in
+    let k₁ : Chunk = record { number = n; size = 0; charges = [] } in
+    let kept = step_kept me.0.start s s.homes id me.0 w k at number_word (n + 1) DrawChunkNumber (record {
+      lawful = subst (λ r. IsLawfulFixedTree (account r (claims_of (set s.views id w))))
+          (sym (rows_of-before me.0.start.tree 0 number_word (n + 1) s.words (omega arith)))
+          (claims_move (rows_of me.0.start.tree 0 s.words) s.views id me.0 w at (same_self (its_charges me.0)) k.accounts);
+      limits = λ m h. get_or-set_other s.words number_word (limit_word m) (n + 1) 0 (λ q. omega arith);
+      next = get_or-set_same s.words number_word (n + 1) 0 (let q = k.layout.wide in omega arith);
+      bounded = omega arith;
+      made = λ f. (let q = sum_by_push f me.0.own.own_steps e in omega arith);
+      bytes = omega arith;
+      turns = omega arith;
+      sizes = (let q = sum_by-cons (λ (k : Chunk). k.size) k₁ me.0.own.chunks in omega arith);
+      numbers = λ m. (let q = sum_by-cons (λ (k : Chunk). cond (k.number == m) 1 0) k₁ me.0.own.chunks in omega arith);
+      fresh = λ m ne. rw (ne_eqb n m (λ q. ne (sym q))) refl;
+      good = (let old = k.tokens id me.0 at in (
+        record {
+          own_steps = steps_more k.history e me.0.own old.0 refl;
+          observed = (good_longer k.history e me.0.own old.0).observed;
+          chunks = All-cons IsGoodChunk k₁ me.0.own.chunks (record {
+            few = omega arith;
+            whole =
+                All-nil (λ (x : Claim). size_of x.phase ≤ 0);
+          }) old.0.chunks;
+        },
+        good_longer k.history e me.0.offer old.1,
+      ));
+    }) in (
+      w,
+      keeps,
+      tt,
+      subst (λ (x : ℕ). IsSoundTable me.0.start (record { words = set s.words number_word x; homes = s.homes; views = set s.views id w }))
+          (sym (mod-eq_of_lt (let h = few in omega arith))) kept,
+      ((length k.history, refl), refl, some_number, few),
+    )

@@ -1,0 +1,95 @@
+-- A refusal stays within the worst case of what was asked for.
+use Rattle.std.proofs.Common.{zero, suc, ◌≡◌, ℕ, ◌+◌, ◌≤◌, Bool, true, false, cond, List, [], ◌∷◌, ◌++◌, map, All, Option, Some, None, sym, ap, subst, arith}
+use mathlib.Core.Option.{some, some-injective, some-ne-none}
+use lib.ListN.{get_elem?}
+use Rattle.std.proofs.lemmas.List.Elements.{All-cons, All-head, All-tail, All-nil, All-push}
+use Rattle.mem_num.specs.declared.full.Full.{Full}
+use Rattle.mem_model.specs.WorstCase.{worst_case}
+use Rattle.acct_core.specs.declared.level_step.LevelStep.{LevelStep}
+use Rattle.acct_core.specs.Phases.{is_past}
+use Rattle.acct_words.specs.Entries.{StepKind, Entry, InHistory, begun, reached}
+use Rattle.acct_words.specs.Entries.StepKind.{LoadWord, DrawChunkNumber, BeginCharge, AddHeld, SubtractHeld}
+use Rattle.acct_words.specs.declared.fixed.Fixed.{Fixed}
+use Rattle.acct_words.specs.Views.{View}
+use Rattle.acct_words.specs.Rule.{reservations, IsBounded, KnowsHistory}
+use Rattle.acct_words.specs.Climbs.{Shows, amount_of, refusal_of, full_at}
+use Rattle.acct_words.specs.Climbs.Shows.{none, more}
+use Rattle.acct_words.specs.Charges.{draw_entry, still_entry, ViewRefuses, ViewWithinWorstCase}
+
+-- what holds of all holds of the one at a place
+all_there : {A : Type 0} (P : A → Type 0) (xs : List A) (i : ℕ) (x : A) → All P xs → get_elem? xs i ≡ some x → P x
+all_there P [] i x h at = absurd (some-ne-none x (sym at))
+all_there P (y ∷ ys) zero x h at = subst P (some-injective y x at) (All-head P y ys h)
+all_there P (y ∷ ys) (suc i) x h at = all_there P ys i x (All-tail P y ys h) at
+
+-- parts of a list
+All-left : {A : Type 0} (P : A → Type 0) (xs ys : List A) → All P (xs ++ ys) → All P xs
+All-left P [] ys h = All-nil P
+All-left P (x ∷ xs) ys h = All-cons P x xs (All-head P x (xs ++ ys) h) (All-left P xs ys (All-tail P x (xs ++ ys) h))
+
+All-right : {A : Type 0} (P : A → Type 0) (xs ys : List A) → All P (xs ++ ys) → All P ys
+All-right P [] ys h = h
+All-right P (x ∷ xs) ys h = All-right P xs ys (All-tail P x (xs ++ ys) h)
+
+-- what an addition leads to
+reached_is : (act : StepKind) (found amount : ℕ) → amount_of act ≡ Some amount → reached act found ≡ found + amount
+reached_is (BeginCharge size) found amount e = ap (λ (o : Option ℕ). found + or_zero o) e
+  where
+    or_zero : Option ℕ → ℕ
+    or_zero None = 0
+    or_zero (Some n) = n
+reached_is (AddHeld size) found amount e = ap (λ (o : Option ℕ). found + or_zero o) e
+  where
+    or_zero : Option ℕ → ℕ
+    or_zero None = 0
+    or_zero (Some n) = n
+reached_is LoadWord found amount e = absurd cc
+reached_is DrawChunkNumber found amount e = absurd cc
+reached_is (SubtractHeld size) found amount e = absurd cc
+
+module _ (tree : List Fixed) (history : List Entry) (bounded : All (IsBounded tree history) history) where
+  abbrev IsWithin : LevelStep → Type 0
+  IsWithin step = step.old + step.amount ≤ worst_case (map begun history) (reservations tree)
+
+  -- each step that the entries show is within the worst case
+  steps_within : {entries : List Entry} {steps : List LevelStep} → Shows entries steps → All (InHistory history) entries →
+      All IsWithin steps
+  steps_within none h = All-nil IsWithin
+  steps_within (more {entries = entries} {steps = steps} {step = step} {addition = addition} {limit = limit} shows level) h =
+      All-push IsWithin steps step (steps_within shows (All-left (InHistory history) entries (addition ∷ limit ∷ []) h))
+      (let a = all_there (IsBounded tree history) history addition.name addition bounded (All-head (InHistory history) addition
+      (limit ∷ []) (All-right (InHistory history) entries (addition ∷ limit ∷ []) h)) in
+      let r = reached_is addition.kind addition.found step.amount level.added in let o = level.returned in omega arith)
+
+  -- and so is the refusal
+  refusal_within : (at : ℕ) (steps : List LevelStep) (full : Full) → All IsWithin steps → refusal_of at steps ≡ Some full →
+      full.held + full.amount ≤ worst_case (map begun history) (reservations tree)
+  refusal_within at [] full h e = absurd cc
+  refusal_within at (s ∷ steps) full h e = by (is_past s) (refusal_within at steps full (All-tail IsWithin s steps h)) e
+    where
+      full_sum : Option Full → ℕ
+      full_sum None = 0
+      full_sum (Some f) = f.held + f.amount
+
+      by : (b : Bool) → (refusal_of at steps ≡ Some full → full.held + full.amount ≤ worst_case (map begun history) (reservations tree)) →
+          cond b (Some (full_at at s)) (refusal_of at steps) ≡ Some full
+          → full.held + full.amount ≤ worst_case (map begun history) (reservations tree)
+      by true later g = let a = ap full_sum g in let i = All-head IsWithin s steps h in omega arith
+      by false later g = later g
+
+-- a refused charge
+pub refused_within : (at size : ℕ) (v w : View) (full : Full) → ViewRefuses at size v w full → KnowsHistory w → ViewWithinWorstCase w full
+refused_within at size v w full r k = record {
+  known = k;
+  bound = refusal_within w.start.tree k.history k.legal.bounded at r.steps full
+      (steps_within w.start.tree k.history k.legal.bounded r.shows its_entries) r.refusal;
+}
+  where
+    its_entries : All (InHistory k.history) r.entries
+    its_entries =
+        let P = InHistory k.history in
+        let all : List Entry =
+        draw_entry r.draw_name r.number ∷ (r.entries ++ (r.taken_back ++ still_entry r.last_name r.last_found ∷ [])) in
+        All-left P r.entries (r.taken_back ++ still_entry r.last_name r.last_found ∷ []) (All-tail P (draw_entry r.draw_name r.number)
+        (r.entries ++ (r.taken_back ++ still_entry r.last_name r.last_found ∷ []))
+        (All-right P v.own.own_steps all (subst (λ (x : View). All P x.own.own_steps) r.token k.own_steps)))

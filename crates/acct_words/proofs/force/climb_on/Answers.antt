@@ -1,0 +1,43 @@
+use Rattle.std.proofs.Common.{refl, ap, ◌∙◌, sym, subst}
+use Rattle.acct_words.specs.Rows.{HasParentsBefore}
+use Rattle.acct_words.specs.Climbs.{GoesOn, IsGoing, IsInTree}
+use Rattle.acct_words.proofs.ClimbLemmas.{level_goes_on, goes_on_then, going_on, going_up, next_in_tree}
+use Rattle.acct_words.proofs.force.climb_on.Goals as goal
+
+pub loop-next-init : goal.loop-next-init
+loop-next-init c = record {
+  table = (refl, refl);
+  start = refl;
+  inside = c.requires.inside;
+  going = c.requires.going;
+  went = λ size forced chunk rest others bytes turns v steps h f. (steps, h, f);
+}
+
+pub climb_level-refused-requires-clause-up : goal.climb_level-refused-requires-clause-up
+climb_level-refused-requires-clause-up c =
+    going_up c.args.at c.in-Some.level c.in-Some.amount c.loop-next.token.me.0 c.loop-next.full
+    (subst (IsGoing c.args.at c.loop-next.token.me.0 c.loop-next.full) c.in-Some.is c.loop-next.invariant.going)
+
+pub loop-next-preserved : goal.loop-next-preserved
+loop-next-preserved c =
+    let t = c.requires.table in
+    let i = c.loop-next.invariant in
+    let e = c.climb_level-refused.ensures.level in
+    let n = c.args.nodes.now in
+    let full = c.loop-next.full in
+    let w = c.loop-next.token.me.0 in
+    let x = c.climb_level-refused.new.token.me.0 in
+    let tree = ap (λ (y : _). y.tree) (i.start ∙ t.start) ∙ sym c.requires.nodes in
+    let one : GoesOn c.args.at w x full c.lower-full.result c.loop-next.next c.climb_level-refused.result.1
+    = subst (λ (o : _). GoesOn c.args.at w x full c.lower-full.result o c.climb_level-refused.result.1) (sym c.in-Some.is)
+    (level_goes_on n c.args.at c.in-Some.level c.in-Some.amount e.0 w x full c.climb_level-refused.result.0 c.lower-full.result
+    c.climb_level-refused.result.1 tree e.1 e.2 e.3 c.lower-full.ensures) in
+    record {
+      table = (c.climb_level-refused.ensures.table.0 ∙ i.table.0, c.climb_level-refused.ensures.table.1 ∙ i.table.1);
+      start = ap (λ (y : _). y.start) e.1.view ∙ i.start;
+      inside = subst (IsInTree n) (sym e.3) (next_in_tree n c.in-Some.level c.in-Some.amount e.0 (subst (λ (l : _). HasParentsBefore l)
+          (sym c.requires.nodes) t.parents) (subst (IsInTree n) c.in-Some.is i.inside));
+      going = going_on c.args.at w x full c.lower-full.result c.loop-next.next c.climb_level-refused.result.1 one i.going;
+      went = goes_on_then c.args.at c.args.token.now.me.0 w x c.args.full full c.lower-full.result c.args.next c.loop-next.next
+          c.climb_level-refused.result.1 i.went one;
+    }

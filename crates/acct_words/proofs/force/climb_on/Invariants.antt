@@ -1,0 +1,15 @@
+use Rattle.std.proofs.Common.{◌≡◌}
+use Rattle.acct_words.specs.Climbs.{GoesOn, IsGoing, IsInTree, levels_left}
+use Rattle.acct_words.proofs.force.climb_on.Given as goal
+
+abbrev pub invariant-loop-next : goal.invariant-loop-next
+invariant-loop-next l = record {
+  table : (l.token.table_id ≡ l.fn.token.table_id) × (l.token.me.1 ≡ l.fn.token.me.1);
+  start : l.token.me.0.start ≡ l.fn.token.me.0.start;
+  inside : IsInTree l.nodes l.next;
+  going : IsGoing l.at l.token.me.0 l.full l.next;
+  went : GoesOn l.at l.fn.token.me.0 l.token.me.0 l.fn.full l.full l.fn.next l.next;
+}
+
+abbrev pub decreases-loop-next : goal.decreases-loop-next
+decreases-loop-next l = levels_left l.next

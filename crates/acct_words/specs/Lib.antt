@@ -1,0 +1,15 @@
+pub mod Places
+pub mod Entries
+pub mod Views
+pub mod Bodies
+pub mod Rows
+pub mod Moves
+pub mod Rule
+pub mod Plays
+pub mod Climbs
+pub mod Falls
+pub mod Calls
+pub mod Charges
+pub mod Openings
+pub mod Tokens
+pub mod CallHistories

@@ -1,0 +1,22 @@
+-- Which word is which. An allocator has sixteen words, so that no two allocators share a line of the cache.
+use Rattle.std.specs.Prelude.{ℕ, ◌+◌, ◌*◌}
+
+-- the word that never changes, which splits and joins load
+abbrev pub still_word : ℕ
+still_word = 0
+
+-- the word from which chunk numbers are drawn
+abbrev pub number_word : ℕ
+number_word = 16
+
+-- what the allocator n holds
+abbrev pub held_word : ℕ → ℕ
+held_word number = 16 * number + 32
+
+-- its limit
+abbrev pub limit_word : ℕ → ℕ
+limit_word number = 16 * number + 33
+
+-- how many words so many allocators have
+abbrev pub word_count : ℕ → ℕ
+word_count number = 16 * number + 32

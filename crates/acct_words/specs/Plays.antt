@@ -1,0 +1,113 @@
+-- What each kind of step tells its caller.
+use Rattle.std.specs.Prelude.{◌≡◌, ℕ, ◌+◌, ◌^◌, ◌<◌, ◌≤◌}
+use Rattle.acct_words.specs.declared.budget.TheConstants.{MOST_BYTES}
+use Rattle.mem_num.specs.declared.bounds.TheConstants.{MOST_NUMBERS}
+use Rattle.atomic_table.specs.Table.{Me}
+use Rattle.atomic_table.specs.Table as table
+use Rattle.acct_words.specs.Entries.{StepKind, Entry}
+use Rattle.acct_words.specs.Entries.StepKind.{LoadWord, DrawChunkNumber, BeginCharge, AddHeld, SubtractHeld}
+use Rattle.acct_words.specs.declared.rule.Said.{Said}
+use Rattle.acct_words.specs.Views.{Body, View}
+use mathlib.Core.Option as option
+use mathlib.Core.Option.{some, none}
+use Rattle.acct_words.specs.Places.{held_word, limit_word}
+use Rattle.acct_words.specs.Rows.{node}
+use Rattle.acct_words.specs.Rule.{KnowsHistory}
+use Rattle.acct_words.specs.Moves.{drawing, beginning, forcing, rising, reading, parting, parted, falling, turning, paying, paid}
+
+-- a step of this name
+abbrev pub entry : ℕ → ℕ → StepKind → ℕ → Entry
+entry name word act found = record { name = name; word = word; kind = act; found = found }
+
+-- a view whose own body made this step
+abbrev pub stepping : (Body → Entry → Body) → View → Entry → View
+stepping make old step = record { start = old.start; own = make old.own step; offer = old.offer }
+
+-- a step on a word, which returned this, made this of the token's own body
+abbrev pub Steps : StepKind → (Body → Entry → Body) → ℕ → ℕ → View → View → Type 0
+Steps act make word found old new = (name : ℕ) × (new ≡ stepping make old (entry name word act found))
+
+module _ {S : Type 0} where
+  -- a number is drawn, which fits in 32 bits
+  abbrev pub Draws : table.Step S → Me S View → ℕ → Me S View → Type 0
+  Draws asked me found after = Steps DrawChunkNumber drawing asked.word found me.0 after.0 × (after.1 ≡ me.1) × (1 ≤ found) ×
+      (found < MOST_NUMBERS)
+
+  -- a charge begins
+  abbrev pub Begins : table.Step S → Me S View → ℕ → Me S View → Type 0
+  Begins asked me found after = (level : ℕ) × (asked.word ≡ held_word level) × Steps (BeginCharge asked.first)
+      (beginning me.0.start.tree level asked.first)
+      asked.word found me.0 after.0 × (after.1 ≡ me.1) × (found + asked.first < 2 ^ 63)
+
+  -- a chunk's size is forced onto an allocator
+  abbrev pub Forces : table.Step S → Me S View → ℕ → Me S View → Type 0
+  Forces asked me found after = (level : ℕ) × (asked.word ≡ held_word level) × Steps (AddHeld asked.first)
+      (forcing me.0.start.tree level asked.first) asked.word
+      found me.0 after.0 × (after.1 ≡ me.1) × (found + asked.first < 2 ^ 63)
+
+  -- what is pending is added at the next level
+  abbrev pub Rises : table.Step S → Me S View → ℕ → Me S View → Type 0
+  Rises asked me found after = Steps (AddHeld asked.first) (rising me.0.start.tree) asked.word found me.0 after.0 × (after.1 ≡ me.1) ×
+      (found + asked.first < 2 ^ 63)
+
+  -- the limit of a level is read
+  abbrev pub Reads : table.Step S → Me S View → ℕ → Me S View → Type 0
+  Reads asked me found after = (level : ℕ) × (asked.word ≡ limit_word level) × Steps LoadWord reading asked.word found me.0 after.0 ×
+      (after.1 ≡ me.1) ×
+      (found ≡ (node me.0.start.tree level).limit)
+
+  -- the first chunk is offered to the next split
+  abbrev pub Parts : table.Step S → Me S View → ℕ → Me S View → Type 0
+  Parts asked me found after =
+      (name : ℕ) × (after ≡ (
+        record {
+          start = me.0.start;
+          own = parting me.0.own (entry name asked.word LoadWord found);
+          offer =
+              parted me.0.own;
+        },
+        me.1,
+      )) × KnowsHistory after.0
+
+  -- a charge turns round, and its whole size is subtracted at its allocator
+  abbrev pub Turns : table.Step S → Me S View → ℕ → Me S View → Type 0
+  Turns asked me found after = Steps (SubtractHeld asked.first) (turning me.0.start.tree) asked.word found me.0 after.0 × (after.1 ≡ me.1) ×
+      (asked.first ≤ found) × (found < 2 ^ 63)
+
+  -- what is pending is subtracted at the next level
+  abbrev pub Falls : table.Step S → Me S View → ℕ → Me S View → Type 0
+  Falls asked me found after = Steps (SubtractHeld asked.first) (falling me.0.start.tree) asked.word found me.0 after.0 × (after.1 ≡ me.1) ×
+      (asked.first ≤ found) × (found < 2 ^ 63)
+
+  -- the first chunk, which has no charge, is forgotten
+  abbrev pub Forgets : table.Step S → Me S View → ℕ → Me S View → Type 0
+  Forgets asked me found after = Steps LoadWord parting asked.word found me.0 after.0 × (after.1 ≡ me.1) × KnowsHistory after.0
+
+  -- the budget is small
+  abbrev pub Counts : table.Step S → Me S View → ℕ → Me S View → Type 0
+  Counts asked me found after = Steps LoadWord reading asked.word found me.0 after.0 × (after.1 ≡ me.1) × (me.0.own.bytes ≤ MOST_BYTES) ×
+      (me.0.own.turns < MOST_NUMBERS)
+
+-- the bytes that a step was told, and the turns
+abbrev pub bytes_said : option.Option Said → ℕ
+bytes_said none = 0
+bytes_said (some said) = said.bytes
+
+abbrev pub turns_said : option.Option Said → ℕ
+turns_said none = 0
+turns_said (some said) = said.turns
+
+-- a view of which so much is offered, and a step of this name and what it found
+abbrev pub paying_view : View → ℕ → ℕ → ℕ → ℕ → ℕ → View
+paying_view old bytes turns name word found = record {
+  start = old.start;
+  own = paying bytes turns old.own (entry name word LoadWord found);
+  offer = paid bytes turns;
+}
+
+-- a part of the budget is offered to the next split
+abbrev pub Pays : table.Step Said → Me Said View → ℕ → Me Said View → Type 0
+Pays asked me found after = (name : ℕ) × (after ≡ (
+  paying_view me.0 (bytes_said asked.said) (turns_said asked.said) name asked.word found,
+  me.1,
+))
