@@ -20,14 +20,14 @@ impl Model for Columns {
 }
 
 impl Columns {
-    /// Those of a vector. Takes no memory.
+    /// The columns of a vector. Takes no memory.
     pub fn new(columns: Vec<Column>) -> Columns
         ensures { result ≡ columns.items }
     {
         Columns { columns }
     }
 
-    /// They as a slice. Takes no memory.
+    /// The columns as a slice. Takes no memory.
     pub fn as_slice(&self) -> &[Column]
         ensures { result.now ≡ self.now }
     {

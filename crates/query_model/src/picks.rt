@@ -18,14 +18,14 @@ impl Model for Picks {
 }
 
 impl Picks {
-    /// Those of a vector. Takes no memory.
+    /// The picks of a vector. Takes no memory.
     pub fn new(picks: Vec<u32>) -> Picks
         ensures { result ≡ picks.items }
     {
         Picks { picks }
     }
 
-    /// They as a slice. Takes no memory.
+    /// The picks as a slice. Takes no memory.
     pub fn as_slice(&self) -> &[u32]
         ensures { result.now ≡ self.now }
     {

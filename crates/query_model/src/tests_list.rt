@@ -20,14 +20,14 @@ impl Model for Tests {
 }
 
 impl Tests {
-    /// Those of a vector. Takes no memory.
+    /// The tests of a vector. Takes no memory.
     pub fn new(tests: Vec<Test>) -> Tests
         ensures { result ≡ tests.items }
     {
         Tests { tests }
     }
 
-    /// They as a slice. Takes no memory.
+    /// The tests as a slice. Takes no memory.
     pub fn as_slice(&self) -> &[Test]
         ensures { result.now ≡ self.now }
     {
