@@ -21,6 +21,7 @@ use Rattle.row_text.specs.Answer.{BeginsPlain, fields_of_row, table_text}
 use Rattle.row_text.specs.Fields.{cell_of, cells_of, int_of, joined}
 use Rattle.row_text.specs.Rows.{AreRows}
 use Rattle.row_text.specs.Table.{EachReads, IsTable, kinds_of, names_of, records_of}
+use Rattle.row_text.proofs.OneReadingLemmas.{tails}
 use Rattle.row_text.proofs.IntLemmas.{int-again, int-range, signed-some}
 
 -- the text of a record has a byte at least
@@ -184,15 +185,12 @@ names-some : (columns : List Column) → BeginsPlain (names_of columns) → kind
 names-some [] p e = p
 names-some (c ∷ cs) p e = cc e
 
-same-body : (x : List (List ℕ)) (xs ys zs : List (List (List ℕ))) → zs ≡ x ∷ xs → zs ≡ x ∷ ys → xs ≡ ys
-same-body x xs ys zs e f = (let g : x ∷ xs ≡ x ∷ ys = sym e ∙ f in cc)
-
 -- rows that were written are the rows that are read of their text, wherever it has a reading
 pub written-read : (columns : List Column) (rows read : List (List Cell)) → BeginsPlain (names_of columns) → AreRows (kinds_of columns) rows
     → IsTable columns (table_text (names_of columns) rows) read → read ≡ rows
 written-read columns rows read p h table =
     let same : table.body ≡ map read_back (map fields_of_row rows) =
-    same-body (names_of columns) table.body _ (records_of (table_text (names_of columns) rows)) table.header (written-records (names_of columns) rows p) in
+    tails (names_of columns) table.body _ (records_of (table_text (names_of columns) rows)) table.header (written-records (names_of columns) rows p) in
     rows-back (kinds_of columns) rows read (names-some columns p) h (subst (λ (t : List (List (List ℕ))). EachReads (kinds_of columns) t read) same table.each)
 
 -- rows that were read have a reading once they are written

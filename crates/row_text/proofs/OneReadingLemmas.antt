@@ -8,7 +8,8 @@ use Rattle.query_model.specs.declared.kind.Kind.{Kind}
 use Rattle.row_text.specs.Fields.{cells_of}
 use Rattle.row_text.specs.Table.{EachReads, IsFirstBad, IsFirstBadRow, IsTable, kinds_of, names_of, records_of}
 
-tails : (x : List (List ℕ)) (xs ys zs : List (List (List ℕ))) → zs ≡ x ∷ xs → zs ≡ x ∷ ys → xs ≡ ys
+-- lists with one head have one tail
+pub tails : (x : List (List ℕ)) (xs ys zs : List (List (List ℕ))) → zs ≡ x ∷ xs → zs ≡ x ∷ ys → xs ≡ ys
 tails x xs ys zs e f = (let g : x ∷ xs ≡ x ∷ ys = sym e ∙ f in cc)
 
 -- records read as one list of rows

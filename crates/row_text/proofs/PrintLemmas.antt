@@ -13,7 +13,7 @@ use Rattle.row_text.specs.Answer.{fields_of_row, table_text}
 use Rattle.row_text.specs.Rows.{AreLong, IsRange, IsStoredTable, Table, beside, cells_in, part_of, rows_from, table_of}
 use Rattle.row_text.specs.Stored.{AreTexts, ColumnCells, numbers, texts}
 use Rattle.row_text.proofs.TableLemmas.{long-head, long-tail, rows-length}
-use Rattle.row_text.proofs.SliceLemmas.{cuts-length, stored-length}
+use Rattle.row_text.proofs.SliceLemmas.{cuts-length, rising-within, stored-length}
 
 -- the fields of rows
 abbrev fields_of_row_list : List (List Cell) → List (List (List ℕ))
@@ -37,16 +37,11 @@ cut-at place start [] bytes within = absurd (omega arith)
 cut-at zero start (e ∷ es) bytes within = refl
 cut-at (suc place) start (e ∷ es) bytes within = cut-at place e es bytes (omega arith)
 
-rising-end : (start : ℕ) (ends : List ℕ) (size : ℕ) → Rising start ends size → start ≤ size
-unfolding Rising
-rising-end start [] size h = h
-rising-end start (e ∷ es) size h = let rest = rising-end e es size h.1 in let first : start ≤ e = h.0 in omega (arith, rest, first)
-
 rising-at : (place start : ℕ) (ends : List ℕ) (size : ℕ) → Rising start ends size → place < length ends
     → (last_end start (take place ends) ≤ get_or ends place 0) × (get_or ends place 0 ≤ size)
 unfolding Rising last_end
 rising-at place start [] size h within = absurd (omega arith)
-rising-at zero start (e ∷ es) size h within = (h.0, rising-end e es size h.1)
+rising-at zero start (e ∷ es) size h within = (h.0, rising-within e es size h.1)
 rising-at (suc place) start (e ∷ es) size h within = rising-at place e es size h.1 (omega arith)
 
 pub text-bounds : (bytes ends : List ℕ) (place start : ℕ) → AreTexts bytes ends → place < length ends → start ≡ last_end 0 (take place ends)

@@ -72,7 +72,8 @@ texts-part from len bytes ends =
     ap (map Text) (cuts-take len (last_end 0 (take from ends)) (drop from ends) bytes ∙ ap (take len) (cuts-drop from 0 ends bytes))
     ∙ sym (take-map Text len (drop from (cut_from 0 ends bytes))) ∙ ap (take len) (sym (drop-map Text from (cut_from 0 ends bytes)))
 
-rising-within : (start : ℕ) (ends : List ℕ) (size : ℕ) → Rising start ends size → start ≤ size
+-- places that rise begin within their end
+pub rising-within : (start : ℕ) (ends : List ℕ) (size : ℕ) → Rising start ends size → start ≤ size
 unfolding Rising
 rising-within start [] size h = h
 rising-within start (e ∷ es) size h = let rest = rising-within e es size h.1 in let first : start ≤ e = h.0 in omega (arith, rest, first)

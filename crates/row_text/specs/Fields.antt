@@ -1,5 +1,6 @@
 -- What a field of a record reads as.
-use Rattle.std.specs.Prelude.{ℕ, ℤ, pos, neg_ℤ, ◌^◌, Bool, ◌&&◌, nat_le, nat_lt, List, [], ◌∷◌, length, drop, Option, Some, None, option_map, if◌then◌else◌}
+use Rattle.std.specs.Prelude.{ℕ, ℤ, pos, neg_ℤ, ◌^◌, Bool, ◌&&◌, nat_le, nat_lt, if◌then◌else◌}
+use Rattle.std.specs.Prelude.{List, [], ◌∷◌, length, drop, Option, Some, None, option_map}
 use Rattle.std.specs.Str.{all_ascii_digits}
 use Rattle.std.specs.Str.Parse.{digits_value, starts_with_minus}
 use Rattle.std.specs.Str.{is_utf8}
@@ -20,7 +21,8 @@ digits_of bytes = if all_ascii_digits bytes then Some (digits_value 10 bytes) el
 abbrev pub int_of : List ℕ → Option ℤ
 int_of field =
     if starts_with_minus field
-    then (if are_digits (drop 1 field) && nat_le (digits_value 10 (drop 1 field)) (2 ^ 63) then Some (neg_ℤ (pos (digits_value 10 (drop 1 field)))) else None)
+    then (if are_digits (drop 1 field) && nat_le (digits_value 10 (drop 1 field)) (2 ^ 63)
+    then Some (neg_ℤ (pos (digits_value 10 (drop 1 field)))) else None)
     else (if are_digits field && nat_lt (digits_value 10 field) (2 ^ 63) then Some (pos (digits_value 10 field)) else None)
 
 -- the cell that a field is in a column of this kind: an int field is empty, which is null, or a number, and a text field is any text
