@@ -5,8 +5,12 @@ mod allocators;
 mod memories;
 mod references;
 mod reports;
+mod tables;
+mod words;
 
 pub use allocators::{ask, finish, open_operator, open_query};
 pub use memories::{store_all, store_in_tree};
 pub use references::{hand_over, scan_and_filter};
 pub use reports::{is_own_report_lawful, name_operator};
+pub use tables::{read_again, write_anew};
+pub use words::{charge_for_a_while, move_charge};
