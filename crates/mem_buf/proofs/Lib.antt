@@ -5,3 +5,4 @@ pub mod CauseLemmas
 pub mod PayLemmas
 pub mod GiveBackLemmas
 pub mod StoreLemmas
+pub mod StoringLemmas

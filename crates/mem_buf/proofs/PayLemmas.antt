@@ -1,8 +1,8 @@
 -- What a token can pay for, once it has paid for some of it.
-use Rattle.std.proofs.Common.{◌≡◌, ℕ, ◌+◌, ◌≤◌, List, ◌∷◌, ap, sym, ◌∙◌, arith, tests}
-use Rattle.std.proofs.lemmas.Bool.{cases_lt}
+use Rattle.std.proofs.Common.{◌≡◌, ℕ, ◌+◌, ◌*◌, ◌≤◌, List, ◌∷◌, length, get_or, ap, sym, ◌∙◌, arith, tests}
+use Rattle.std.proofs.lemmas.Bool.{cases_lt, cond_both}
 use Rattle.std.proofs.lemmas.Bool.Decides.{nat_tests}
-use Rattle.std.proofs.lemmas.List.Sums.{sum_by-cons}
+use Rattle.std.proofs.lemmas.List.Sums.{sum_by-cons, sum_by-le}
 use Rattle.std.specs.Prelude.{◌==◌, if◌then◌else◌, sum_by, Result}
 use Rattle.std.specs.Option.{unwrap_or}
 use Rattle.mem_num.specs.Rounded.{rounded_size}
@@ -11,7 +11,7 @@ use Rattle.mem_num.specs.declared.rounding.Rounding.TheVariants.{Power}
 use Rattle.mem_num.specs.declared.alloc_id.AllocId.{AllocId}
 use Rattle.mem_num.specs.declared.buffer_ref.Ref.{Ref}
 use Rattle.mem_num.specs.declared.buffer_refused.BufferRefused.{BufferRefused}
-use Rattle.mem_buf.specs.TokenView.{TokenView, CanName, bytes_for, turns_for, charged_for}
+use Rattle.mem_buf.specs.TokenView.{TokenView, CanName, size_for, bytes_for, turns_for, charged_for}
 use Rattle.mem_buf.specs.MemoryCall.{Grant}
 use Rattle.mem_buf.specs.Changes.{ChangesView, KeepsNames}
 use Rattle.mem_buf.specs.Callers.{CanPay}
@@ -19,6 +19,22 @@ use Rattle.mem_buf.specs.Callers.{CanPay}
 -- no buffer is charged more than the largest
 pub charged_few : (size : ℕ) → charged_for size ≤ LARGEST
 charged_few size = grind (arith, nat_tests, tests, cases_lt LARGEST size)
+
+-- few enough requests can be paid for, whatever their sizes
+pub CanPay-few : (view : TokenView) (at : AllocId) (requests : List ℕ) → CanName view at → length requests * LARGEST ≤ view.bytes
+    → length requests ≤ view.turns → CanPay view at requests
+CanPay-few view at requests named bytes turns = record {
+  named = named;
+  bytes = omega (
+    arith,
+    sum_by-le (bytes_for view at) LARGEST requests (λ k d within. charged_few (size_for view at (get_or requests k d))),
+  );
+  turns = omega (
+    arith,
+    sum_by-le (turns_for view at) 1 requests (λ k d within.
+        cond_both (bytes_for view at (get_or requests k d) == 0) 0 1 (λ turns. turns ≤ 1) (λ _. omega arith) (λ _. omega arith)),
+  );
+}
 
 -- an allocator that could be named has its rounding still
 pub rounding_kept : (at : AllocId) (old new : TokenView) → CanName old at → KeepsNames old new

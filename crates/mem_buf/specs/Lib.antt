@@ -6,4 +6,5 @@ pub mod Changes
 pub mod Chain
 pub mod View
 pub mod Callers
+pub mod Storing
 pub mod Listed

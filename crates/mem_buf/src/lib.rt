@@ -10,6 +10,7 @@ mod listed_memory;
 mod memory;
 mod slice_refused;
 mod store;
+mod storing;
 mod view;
 
 pub use arrow_buf::ArrowBuf;
@@ -20,7 +21,8 @@ pub use listed_answer::ListedAnswer;
 pub use listed_memory::ListedMemory;
 pub use memory::Memory;
 pub use slice_refused::{OutOfBuffer, SliceRefused};
-pub use store::store_bytes;
+pub use store::{store_bytes, store_vec};
+pub use storing::store_vecs;
 pub use view::View;
 
 #[cfg(test)]

@@ -1,6 +1,6 @@
 //! The token of a listed memory.
 ghost use Rattle.std.specs.Prelude.{◌≡◌, ◌≤◌, ◌↔◌, IsTrue};
-ghost use Rattle.mem_buf.specs.Listed.{pins_in};
+ghost use Rattle.mem_buf.specs.Listed.{answer_at, pins_in};
 
 use crate::listed_answer::ListedAnswer;
 use mem_num::AllocId;
@@ -38,6 +38,7 @@ impl Listed {
 
     /// The next answer.
     pub(crate) fn take(&mut self) -> ListedAnswer
+        ensures next { result ≡ answer_at self.old.answers.items self.old.taken }
         ensures pinned { self.new.pinned ≡ self.old.pinned }
     {
         let Some(answer) = self.answers.get(self.taken) else {

@@ -1,5 +1,5 @@
 //! A memory for tests, which answers from a list.
-ghost use Rattle.std.specs.Prelude.{◌≡◌, ◌<◌, ◌+◌, IsTrue, ⊤};
+ghost use Rattle.std.specs.Prelude.{◌≡◌, ◌<◌, ◌+◌, IsTrue};
 
 use crate::listed::Listed;
 use crate::listed_answer::ListedAnswer;
@@ -9,8 +9,8 @@ use mem_num::{
     RefRefused, Rounding, rounded,
 };
 
-/// A memory for tests of those who call one: each call gets the next answer of its token's list, if it can have it. It charges
-/// nobody, and its calls have no meaning beside what every memory says.
+/// A memory for tests of those who call one: each call gets the next answer of its token's list, if it can have it, and
+/// charges nobody. Its calls mean that they follow that answer.
 #[derive(Clone, Copy, Debug, PartialEq, Eq)]
 pub struct ListedMemory;
 
@@ -19,12 +19,12 @@ impl Memory for ListedMemory {
 
     type Hold = Ref;
 
-    ghost use Rattle.mem_buf.specs.Listed.{listed_view};
+    ghost use Rattle.mem_buf.specs.Listed.{Follows, answer_at, listed_view};
 
     ghost model = { record {
       view = λ token. listed_view token.pinned.items;
       reference = λ hold. hold;
-      means = λ call old new. ⊤;
+      means = λ call old new. Follows (answer_at old.answers.items old.taken) call;
     } };
 
     fn child(

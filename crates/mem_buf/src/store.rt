@@ -32,9 +32,34 @@ pub fn store_bytes<M: Memory>(
     ensures calls { Runs M.model (IsStore at (length bytes.now) (size_for (M.model.view token.old) at (length bytes.now))
         (named (λ buf. M.model.reference buf.hold) result)) token.old token.new }
 {
+    rounded(Rounding::Power, bytes.len() as u64)?;
+    let Ok(copy) = bytes.to_vec(alloc) else {
+        return Err(BufferRefused::NoMemory);
+    };
+    store_vec(alloc, mem, token, at, copy)
+}
+
+/// Asks for a buffer for the bytes of a vector, which becomes the buffer's: nothing is copied. It is refused as too large first, and
+/// then the memory is asked. A buffer that finds no memory leaves the token and the tree as they were.
+pub fn store_vec<M: Memory>(
+    alloc: Global,
+    mem: &M,
+    token: &mut M::Token,
+    at: AllocId,
+    bytes: Vec<u8>,
+) -> Result<ArrowBuf<M::Hold>, BufferRefused>
+    requires named { CanName (M.model.view token.old) at }
+    requires bytes { bytes_for (M.model.view token.old) at (length bytes.items) ≤ (M.model.view token.old).bytes }
+    requires turn { turns_for (M.model.view token.old) at (length bytes.items) ≤ (M.model.view token.old).turns }
+    ensures stored { IfOk result (λ buf. bytes_in buf.view ≡ bytes.items) }
+    ensures refused { IfErr result (IsGrantRefusal (M.model.view token.old) at (length bytes.items)
+        (size_for (M.model.view token.old) at (length bytes.items))) }
+    ensures calls { Runs M.model (IsStore at (length bytes.items) (size_for (M.model.view token.old) at (length bytes.items))
+        (named (λ buf. M.model.reference buf.hold) result)) token.old token.new }
+{
     let len = bytes.len() as u64;
     rounded(Rounding::Power, len)?;
-    let Ok(view) = copied(alloc, bytes) else {
+    let Ok(view) = whole(alloc, bytes) else {
         return Err(BufferRefused::NoMemory);
     };
     match mem.grant(token, at, len) {
@@ -43,13 +68,12 @@ pub fn store_bytes<M: Memory>(
     }
 }
 
-// A view of a copy of the bytes.
-fn copied(alloc: Global, bytes: &[u8]) -> Result<View, AllocError>
-    ensures value { IfOk result (λ view. bytes_in view ≡ bytes.now) }
+// A view of all bytes of a vector.
+fn whole(alloc: Global, bytes: Vec<u8>) -> Result<View, AllocError>
+    ensures value { IfOk result (λ view. bytes_in view ≡ bytes.items) }
 {
     let len = bytes.len() as u64;
-    let copy = bytes.to_vec(alloc)?;
-    let bytes = Arc::new(alloc, copy)?;
+    let bytes = Arc::new(alloc, bytes)?;
     Ok(View {
         from: 0,
         len,

@@ -141,6 +141,61 @@ fn storing_hands_a_refusal_on(rt: HostRuntime) -> Result<(), Fail> {
     Ok(())
 }
 
+const WORDS: [&[u8]; 3] = [b"one", b"", b"three"];
+
+/// Stores three words, each in a buffer of its own.
+fn store_words(
+    rt: &(impl Abort + AllocGlobal),
+    token: &mut Listed,
+) -> Result<Result<Vec<ArrowBuf<Ref>>, BufferRefused>, Fail> {
+    let mut words = Vec::new(rt.alloc());
+    for word in WORDS {
+        words.push(word.to_vec(rt.alloc())?)?;
+    }
+    Ok(store_few(rt, token, words))
+}
+
+// Three words at most, for which a listed token always pays.
+fn store_few(
+    rt: &(impl Abort + AllocGlobal),
+    token: &mut Listed,
+    words: Vec<Vec<u8>>,
+) -> Result<Vec<ArrowBuf<Ref>>, BufferRefused> {
+    if words.len() > 3 {
+        return Err(BufferRefused::NoMemory);
+    }
+    store_vecs(rt.alloc(), &ListedMemory, token, ROOT, words)
+}
+
+#[test]
+fn each_vector_becomes_a_buffer(rt: HostRuntime) -> Result<(), Fail> {
+    let mut token = listed(&rt, &[])?;
+    match store_words(&rt, &mut token)? {
+        Ok(bufs) => {
+            assert_eq!(rt; bufs.len(), 3);
+            for (buf, word) in bufs.iter().zip(WORDS) {
+                assert_eq!(rt; buf.view.bytes(), word);
+            }
+            give_back(&ListedMemory, &mut token, bufs);
+        }
+        Err(_) => panic!(rt; "no memory"),
+    }
+    assert_eq!(rt; token.chunks, 2);
+    Ok(())
+}
+
+#[test]
+fn vectors_before_a_refused_one_are_given_back(rt: HostRuntime) -> Result<(), Fail> {
+    let mut token = listed(&rt, &[Done(true), Done(true), ListedAnswer::Full(FULL)])?;
+    match store_words(&rt, &mut token)? {
+        Ok(_) => panic!(rt; "granted"),
+        Err(refused) => assert_eq!(rt; refused, BufferRefused::Full(FULL)),
+    }
+    assert_eq!(rt; token.taken, 3);
+    assert_eq!(rt; token.chunks, 1);
+    Ok(())
+}
+
 #[test]
 fn buffers_are_given_back_in_order(rt: HostRuntime) -> Result<(), Fail> {
     let mut token = listed(&rt, &[])?;

@@ -1,4 +1,3 @@
 -- The lemmas of this crate.
 pub mod CallLemmas
-pub mod StoringLemmas
 pub mod TreeStoringLemmas

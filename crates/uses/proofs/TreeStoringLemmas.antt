@@ -18,30 +18,18 @@ use Rattle.mem_buf.specs.Callers.{CanPay, grants, releases}
 use Rattle.mem_buf.specs.Chain.{MakesCalls, Runs}
 use Rattle.mem_buf.specs.MemoryCall.{MemoryCall, Grant, Release}
 use Rattle.mem_buf.specs.TokenView.{TokenView, size_for, bytes_for, turns_for}
-use Rattle.mem_buf.proofs.PayLemmas.{charged_few}
+use Rattle.mem_buf.proofs.PayLemmas.{CanPay-few}
 use Rattle.alloc_tree.specs.Counting.{most_calls}
 use Rattle.alloc_tree.specs.SoloCalls.{HasMemory, tree_calls, AreAnswered}
 use Rattle.alloc_tree.specs.SoloMeaning.{solo_model}
 use Rattle.alloc_tree.specs.SoloView.{solo_view}
-use Rattle.uses.specs.Storing.{IsRefusedAt, IsStoreAll}
+use Rattle.mem_buf.specs.Storing.{IsRefusedAt, IsStoreAll}
 use Rattle.uses.specs.TreeStoring.{LeavesStored}
 
 -- a tree that has so many calls left can pay for as many requests
 pub can_pay : (tree : MeasuredTree) (at : AllocId) (requests : List ℕ) → length requests ≤ 65536 → tree.calls + 65536 < most_calls
     → CanPay (solo_view tree) at requests
-can_pay tree at requests few left = record {
-  named = refl;
-  bytes = omega (
-    arith,
-    sum_by-le (bytes_for (solo_view tree) at) LARGEST requests (λ k d within.
-        charged_few (size_for (solo_view tree) at (get_or requests k d))),
-  );
-  turns = omega (
-    arith,
-    sum_by-le (turns_for (solo_view tree) at) 1 requests
-        (λ k d within. cond_both (bytes_for (solo_view tree) at (get_or requests k d) == 0) 0 1 (λ turns. turns ≤ 1) (λ _. omega arith) (λ _. omega arith)),
-  );
-}
+can_pay tree at requests few left = CanPay-few (solo_view tree) at requests refl (omega arith) (omega arith)
 
 -- requests that were granted found memory
 grants-found : (at : AllocId) (granted : List (ℕ × Ref)) → All HasMemory (grants at granted)

@@ -10,7 +10,7 @@ use Rattle.mem_buf.specs.declared.arrow_buf.ArrowBuf.{ArrowBuf}
 use Rattle.mem_buf.specs.MemoryCall.{MemoryCall}
 use Rattle.alloc_tree.specs.SoloCalls.{tree_calls, AreAnswered}
 use Rattle.alloc_tree.specs.SoloView.{solo_view}
-use Rattle.uses.specs.Storing.{IsStoreAll}
+use Rattle.mem_buf.specs.Storing.{IsStoreAll}
 
 -- the state is that after the calls which the storing comes to, and each was answered as the tree answers it
 pub record LeavesStored (old new : MeasuredTree) (at : AllocId) (requests : List ℕ)

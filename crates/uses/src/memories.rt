@@ -3,7 +3,7 @@ ghost use Rattle.std.specs.Prelude.{◌≡◌, ◌≢◌, map, length, Err, IfOk
 ghost use Rattle.mem_buf.specs.Callers.{CanPay};
 ghost use Rattle.mem_buf.specs.Chain.{Runs};
 ghost use Rattle.mem_buf.specs.View.{bytes_in};
-ghost use Rattle.uses.specs.Storing.{IsStoreAll};
+ghost use Rattle.mem_buf.specs.Storing.{IsStoreAll};
 ghost use Rattle.uses.specs.TreeStoring.{LeavesStored};
 
 use alloc_tree::{Solo, SoloTree, calls_of_one_thread_are_calls_of_its_tree};

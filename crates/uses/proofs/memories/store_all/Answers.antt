@@ -2,7 +2,7 @@
 use Rattle.std.proofs.Common.{◌≡◌, ◌+◌, arith, ◌∙◌}
 use Rattle.std.specs.Vec.{vec_len, vec_capacity}
 use Rattle.mem_buf.specs.View.{bytes_in}
-use Rattle.uses.proofs.StoringLemmas.{HasStored-one, HasStored-refused, HasStored-unasked, left-cons}
+use Rattle.mem_buf.proofs.StoringLemmas.{HasStored-one, HasStored-refused, HasStored-unasked, left-cons}
 use Rattle.uses.proofs.memories.store_all.Goals as goal
 
 pub returns-in_default-clause-calls : goal.returns-in_default-clause-calls

@@ -1,7 +1,7 @@
 -- The buffers hold the first of the byte lists, and have room for all.
 use Rattle.std.proofs.Common.{◌≡◌, ◌≤◌, length, drop, map}
 use Rattle.std.specs.Vec.{vec_len, vec_capacity}
-use Rattle.uses.proofs.StoringLemmas.{HasStored}
+use Rattle.mem_buf.proofs.StoringLemmas.{HasStored}
 use Rattle.uses.proofs.memories.store_all.Given as goal
 
 abbrev pub invariant-loop-input : goal.invariant-loop-input

@@ -1,25 +1,26 @@
 -- Storing lists of bytes, one after the other.
 use Rattle.std.proofs.Common.{◌≡◌, ℕ, List, [], ◌∷◌, ◌++◌, length, refl, sym, ◌∙◌, ap, subst, append_assoc}
-use Rattle.std.proofs.Common.{◌+◌, ◌<◌, suc, drop, get_or, add-one}
+use Rattle.std.proofs.Common.{◌+◌, ◌*◌, ◌<◌, ◌≤◌, suc, drop, get_or, add-one, arith}
 use Rattle.std.proofs.Math.Seq.{drop-cons}
-use Rattle.std.proofs.lemmas.List.{map-append}
+use Rattle.std.proofs.lemmas.List.{map-append, length-map}
 use Rattle.std.proofs.lemmas.Simd.{map-map}
 use Rattle.std.specs.Prelude.{false, map, Ok, Err}
 use Rattle.std.specs.Option.{unwrap_or}
 use Rattle.mem_num.specs.Rounded.{rounded_size}
+use Rattle.mem_num.specs.declared.bounds.TheConstants.{LARGEST}
 use Rattle.mem_num.specs.declared.rounding.Rounding.TheVariants.{Power}
 use Rattle.mem_num.specs.declared.alloc_id.AllocId.{AllocId}
 use Rattle.mem_num.specs.declared.buffer_refused.BufferRefused.{BufferRefused}
 use Rattle.mem_num.specs.declared.buffer_refused.BufferRefused.TheVariants.{NoMemory}
 use Rattle.mem_buf.specs.declared.arrow_buf.ArrowBuf.{ArrowBuf}
-use Rattle.mem_buf.specs.TokenView.{size_for}
+use Rattle.mem_buf.specs.TokenView.{TokenView, CanName, size_for}
 use Rattle.mem_buf.specs.MemoryCall.{MemoryCall, Grant}
 use Rattle.mem_buf.specs.Chain.{MemoryModel, MakesCall, MakesCalls, Runs}
 use Rattle.mem_buf.specs.Callers.{CanPay, grants, GivesBack, IsStore}
 use Rattle.mem_buf.specs.View.{bytes_in}
 use Rattle.mem_buf.proofs.ChainLemmas.{MakesCalls-snoc, MakesCalls-only, MakesCalls-append}
-use Rattle.mem_buf.proofs.PayLemmas.{CanPay-rest, rounding_kept}
-use Rattle.uses.specs.Storing.{granted_of, IsRefusedStore}
+use Rattle.mem_buf.proofs.PayLemmas.{CanPay-few, CanPay-rest, rounding_kept}
+use Rattle.mem_buf.specs.Storing.{granted_of, IsRefusedStore}
 
 -- what is left from a place on begins with what stands there
 pub left-cons : {X Y : Type 0} (f : X → Y) (xs : List X) (i : ℕ) (x : X) → i < length xs → x ≡ get_or xs i x
@@ -27,6 +28,13 @@ pub left-cons : {X Y : Type 0} (f : X → Y) (xs : List X) (i : ℕ) (x : X) →
 left-cons f xs i x within there =
     ap (map f) (drop-cons xs i x within) ∙ ap (λ y. f y ∷ map f (drop (suc i) xs)) (sym there)
     ∙ ap (λ j. f x ∷ map f (drop j xs)) (sym (add-one i))
+
+-- few enough byte lists can be stored, whatever their lengths
+pub can_store_few : {X : Type 0} (bytes : X → List ℕ) (view : TokenView) (at : AllocId) (inputs : List X) → CanName view at
+    → length inputs * LARGEST ≤ view.bytes → length inputs ≤ view.turns → CanPay view at (map length (map bytes inputs))
+can_store_few bytes view at inputs named budget turns =
+    let few : length (map length (map bytes inputs)) ≡ length inputs = length-map (map bytes inputs) length ∙ length-map inputs bytes in
+    CanPay-few view at (map length (map bytes inputs)) named (omega arith) (omega arith)
 
 module _ {Token H : Type 0} (memory : MemoryModel Token H) (at : AllocId) where
   -- the buffers hold the first of all byte lists, others are left, and the token can pay for those
