@@ -62,6 +62,36 @@ impl CellColumn {
         CellColumn { stored }
     }
 
+    /// A column of numbers, each beside a mark that says whether it is known: one that isn't is null. Takes no memory.
+    pub fn ints(values: Vec<i64>, known: Vec<bool>) -> CellColumn
+        requires marked { length values.items ≡ length known.items }
+        ensures value { result ≡ record { kind = a.Int; cells = numbers cell.Int values.items known.items } }
+    {
+        CellColumn {
+            stored: Stored::Ints(values, known),
+        }
+    }
+
+    /// The same of sums.
+    pub fn sums(values: Vec<i128>, known: Vec<bool>) -> CellColumn
+        requires marked { length values.items ≡ length known.items }
+        ensures value { result ≡ record { kind = a.Sum; cells = numbers cell.Sum values.items known.items } }
+    {
+        CellColumn {
+            stored: Stored::Sums(values, known),
+        }
+    }
+
+    /// A column of texts that lie one after another: the first begins at 0, and each ends where its number says. Takes no memory.
+    pub fn texts(bytes: Vec<u8>, ends: Vec<u32>) -> CellColumn
+        requires texts { AreTexts bytes.items ends.items }
+        ensures value { result ≡ record { kind = a.Text; cells = texts bytes.items ends.items } }
+    {
+        CellColumn {
+            stored: Stored::Texts(bytes, ends),
+        }
+    }
+
     /// Puts the cell that a field is at the end, where it is one, and says whether it is.
     pub(crate) fn push_field(&mut self, field: &[u8]) -> Result<bool, AllocError>
         ensures kind { self.new.kind ≡ self.old.kind }

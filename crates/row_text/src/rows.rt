@@ -25,11 +25,11 @@ impl Model for Rows {
 }
 
 impl Rows {
-    /// The rows of columns with so many cells each. Takes no memory.
-    pub(crate) fn from_columns(columns: Vec<CellColumn>, count: usize) -> Rows
+    /// The rows of columns with so many cells each. Takes no memory, and copies nothing.
+    pub fn from_columns(columns: Vec<CellColumn>, count: usize) -> Rows
         requires long { AreLong count (cells_in columns.items) }
         requires typed { AreRows (kinds_in columns.items) (rows_from count (cells_in columns.items)) }
-        ensures { result ≡ table_of count columns.items }
+        ensures value { result ≡ table_of count columns.items }
     {
         Rows { columns, count }
     }

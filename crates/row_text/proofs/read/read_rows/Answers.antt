@@ -50,11 +50,11 @@ pub returns-then-not-branch-2-clause-read : goal.returns-then-not-branch-2-claus
 returns-then-not-branch-2-clause-read c =
     let (done, left, has, split, size, each) = c.records.invariant.read in
     let t = rw c.if-not-branch-2.true at (c.in_ok-take_next-2.ensures left has) in
-    subst (λ (t : Table). IsTable c.args.columns.now c.args.bytes.now t.rows) (sym c.from_columns.ensures)
+    subst (λ (t : Table). IsTable c.args.columns.now c.args.bytes.now t.rows) (sym c.from_columns.ensures.value)
     (table-done c.args.columns.now c.args.bytes.now c.records.count _ done left split t size c.records.invariant.few each)
 
 pub returns-then-not-branch-2-clause-kinds : goal.returns-then-not-branch-2-clause-kinds
-returns-then-not-branch-2-clause-kinds c = ap (λ (t : Table). t.kinds) c.from_columns.ensures ∙ c.records.invariant.kinds
+returns-then-not-branch-2-clause-kinds c = ap (λ (t : Table). t.kinds) c.from_columns.ensures.value ∙ c.records.invariant.kinds
 
 pub returns-then-row-gt-MOST_ROWS-clause-bad : goal.returns-then-row-gt-MOST_ROWS-clause-bad
 returns-then-row-gt-MOST_ROWS-clause-bad c = λ row e.
