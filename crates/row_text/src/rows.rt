@@ -64,3 +64,6 @@ impl Rows {
         RowsSlice::new(self, from, to)
     }
 }
+
+#[cfg(test)]
+mod tests;
