@@ -1,5 +1,6 @@
 -- What is written of rows is read again.
-use Rattle.std.proofs.Common.{◌≡◌, ◌≤◌, ◌<◌, ◌+◌, ℕ, zero, suc, List, [], ◌∷◌, ◌++◌, length, map, true, false, Option, Some, None, refl, sym, ap, ◌∙◌, arith, subst, inl, inr, length-append}
+use Rattle.std.proofs.Common.{◌≡◌, ◌≤◌, ◌<◌, ◌+◌, ℕ, zero, suc, List, [], ◌∷◌, ◌++◌, length, map, true, false, Option, Some, None, refl}
+use Rattle.std.proofs.Common.{sym, ap, ◌∙◌, arith, subst, inl, inr, length-append}
 use Rattle.std.specs.Prelude.{ℤ, flat_map, option_map, if◌then◌else◌, ◌==◌, ◌≢◌}
 use Rattle.std.specs.Fmt.{signed_decimal}
 use Rattle.std.specs.List.{list_any}
@@ -32,7 +33,8 @@ row-some fields =
     let whole = length-append (row_body default_writer fields) (blank ++ end) in
     let tail = length-append blank end in
     let one : length end ≡ 1 = refl in
-    let all : length (row_text default_writer fields) ≡ length (row_body default_writer fields) + (length blank + 1) = whole ∙ ap (λ (n : ℕ). length (row_body default_writer fields) + n) tail in
+    let all : length (row_text default_writer fields) ≡ length (row_body default_writer fields) + (length blank + 1) = whole
+    ∙ ap (λ (n : ℕ). length (row_body default_writer fields) + n) tail in
     omega (arith, all)
 
 records-fewer : (records : List (List (List ℕ))) → length records ≤ length (rows_text records)
@@ -45,7 +47,8 @@ records-fewer (fields ∷ more) =
     omega (arith, rest, one, size)
 
 -- records that were written are read back, if there are turns enough
-records-again : (n : ℕ) (records : List (List (List ℕ))) → length records < n → records_from default_config n st.StartRecord (rows_text records) ≡ map read_back records
+records-again : (n : ℕ) (records : List (List (List ℕ))) → length records < n
+    → records_from default_config n st.StartRecord (rows_text records) ≡ map read_back records
 unfolding records_from rows_text next_record
 records-again zero records h = absurd (omega arith)
 records-again (suc n) [] h = refl
@@ -145,15 +148,18 @@ joined-parts None cells row e = cc e
 joined-parts (Some c) None row e = cc e
 joined-parts (Some c) (Some cs) row e = (c, cs, refl, refl, (let f : Some (c ∷ cs) ≡ Some row = e in cc))
 
-row-again : (kinds : List Kind) (fields : List (List ℕ)) (row : List Cell) → cells_of kinds fields ≡ Some row → cells_of kinds (fields_of_row row) ≡ Some row
+row-again : (kinds : List Kind) (fields : List (List ℕ)) (row : List Cell) → cells_of kinds fields ≡ Some row
+    → cells_of kinds (fields_of_row row) ≡ Some row
 unfolding cells_of
-row-again [] [] row e = (let same : [] ≡ row = (let f : Some [] ≡ Some row = e in cc) in subst (λ (r : List Cell). cells_of [] (fields_of_row r) ≡ Some r) same refl)
+row-again [] [] row e = (let same : [] ≡ row = (let f : Some [] ≡ Some row = e in cc) in subst
+    (λ (r : List Cell). cells_of [] (fields_of_row r) ≡ Some r) same refl)
 row-again [] (field ∷ fields) row e = cc e
 row-again (kind ∷ kinds) [] row e = cc e
 row-again (kind ∷ kinds) (field ∷ fields) row e =
     let (c, cs, one, rest, same) = joined-parts (cell_of kind field) (cells_of kinds fields) row e in
     subst (λ (r : List Cell). cells_of (kind ∷ kinds) (fields_of_row r) ≡ Some r) (sym same)
-    (ap (λ (t : Option Cell). joined t (cells_of kinds (fields_of_row cs))) (cell-again kind field c one) ∙ ap (joined (Some c)) (row-again kinds fields cs rest))
+    (ap (λ (t : Option Cell). joined t (cells_of kinds (fields_of_row cs))) (cell-again kind field c one)
+    ∙ ap (joined (Some c)) (row-again kinds fields cs rest))
 
 row-back : (kinds : List Kind) (row read : List Cell) → IsRow kinds row → cells_of kinds (fields_of_row row) ≡ Some read → read ≡ row
 unfolding cells_of IsRow
@@ -162,10 +168,12 @@ row-back [] (c ∷ cs) read h e = absurd h
 row-back (kind ∷ kinds) [] read h e = absurd h
 row-back (kind ∷ kinds) (c ∷ cs) read h e =
     let (first, others, one, rest, same) = joined-parts (cell_of kind (printed c)) (cells_of kinds (fields_of_row cs)) read e in
-    same ∙ ap (λ (t : Cell). t ∷ others) (cell-back kind c first h.0 one) ∙ ap (λ (t : List Cell). c ∷ t) (row-back kinds cs others h.1 rest)
+    same ∙ ap (λ (t : Cell). t ∷ others) (cell-back kind c first h.0 one)
+    ∙ ap (λ (t : List Cell). c ∷ t) (row-back kinds cs others h.1 rest)
 
 -- a row of a column at least is read back field by field
-back : (kinds : List Kind) (row read : List Cell) → (kinds ≡ [] → ⊥) → IsRow kinds row → cells_of kinds (read_back (fields_of_row row)) ≡ Some read → read ≡ row
+back : (kinds : List Kind) (row read : List Cell) → (kinds ≡ [] → ⊥) → IsRow kinds row
+    → cells_of kinds (read_back (fields_of_row row)) ≡ Some read → read ≡ row
 unfolding IsRow
 back [] row read some h e = absurd (some refl)
 back (kind ∷ kinds) [] read some h e = absurd h
@@ -190,11 +198,14 @@ pub written-read : (columns : List Column) (rows read : List (List Cell)) → Be
     → IsTable columns (table_text (names_of columns) rows) read → read ≡ rows
 written-read columns rows read p h table =
     let same : table.body ≡ map read_back (map fields_of_row rows) =
-    tails (names_of columns) table.body _ (records_of (table_text (names_of columns) rows)) table.header (written-records (names_of columns) rows p) in
-    rows-back (kinds_of columns) rows read (names-some columns p) h (subst (λ (t : List (List (List ℕ))). EachReads (kinds_of columns) t read) same table.each)
+    tails (names_of columns) table.body _ (records_of (table_text (names_of columns) rows)) table.header
+    (written-records (names_of columns) rows p) in
+    rows-back (kinds_of columns) rows read (names-some columns p) h
+    (subst (λ (t : List (List (List ℕ))). EachReads (kinds_of columns) t read) same table.each)
 
 -- rows that were read have a reading once they are written
-back-again : (kinds : List Kind) (fields : List (List ℕ)) (row : List Cell) → (kinds ≡ [] → ⊥) → cells_of kinds fields ≡ Some row → cells_of kinds (read_back (fields_of_row row)) ≡ Some row
+back-again : (kinds : List Kind) (fields : List (List ℕ)) (row : List Cell) → (kinds ≡ [] → ⊥) → cells_of kinds fields ≡ Some row
+    → cells_of kinds (read_back (fields_of_row row)) ≡ Some row
 unfolding cells_of
 back-again [] fields row some e = absurd (some refl)
 back-again (kind ∷ kinds) [] row some e = cc e
@@ -203,7 +214,8 @@ back-again (kind ∷ kinds) (field ∷ fields) row some e =
     subst (λ (r : List Cell). cells_of (kind ∷ kinds) (read_back (fields_of_row r)) ≡ Some r) (sym same)
     (subst (λ (r : List Cell). cells_of (kind ∷ kinds) (fields_of_row r) ≡ Some r) same (row-again (kind ∷ kinds) (field ∷ fields) row e))
 
-each-again : (kinds : List Kind) (records : List (List (List ℕ))) (rows : List (List Cell)) → (kinds ≡ [] → ⊥) → EachReads kinds records rows
+each-again : (kinds : List Kind) (records : List (List (List ℕ))) (rows : List (List Cell)) → (kinds ≡ [] → ⊥)
+    → EachReads kinds records rows
     → EachReads kinds (map read_back (map fields_of_row rows)) rows × (length rows ≡ length records)
 unfolding EachReads
 each-again kinds [] [] some each = (tt, refl)
@@ -217,7 +229,8 @@ pub read-written : (columns : List Column) (bytes : List ℕ) (rows : List (List
     → IsTable columns bytes rows → IsTable columns (table_text (names_of columns) rows) rows
 read-written columns bytes rows p table =
     let again = each-again (kinds_of columns) table.body rows (names-some columns p) table.each in
-    let size : length (map read_back (map fields_of_row rows)) ≡ length rows = length-map (map fields_of_row rows) read_back ∙ length-map rows fields_of_row in
+    let size : length (map read_back (map fields_of_row rows)) ≡ length rows = length-map (map fields_of_row rows) read_back
+    ∙ length-map rows fields_of_row in
     record {
       body = map read_back (map fields_of_row rows);
       header = written-records (names_of columns) rows p;

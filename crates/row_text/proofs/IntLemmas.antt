@@ -1,5 +1,6 @@
 -- Numbers that were read, printed and read again.
-use Rattle.std.proofs.Common.{◌≡◌, ◌≤◌, ◌<◌, ◌^◌, ℕ, zero, suc, List, length, drop, get_or, Some, None, Bool, true, false, refl, ap, arith, subst, inl, inr}
+use Rattle.std.proofs.Common.{◌≡◌, ◌≤◌, ◌<◌, ◌^◌, ℕ, zero, suc, List, length, drop, get_or, Some, None, Bool, true, false, refl, ap, arith}
+use Rattle.std.proofs.Common.{subst, inl, inr}
 use Rattle.std.specs.Prelude.{ℤ, pos, negsuc, neg_ℤ, if◌then◌else◌, decimal}
 use Rattle.std.specs.Fmt.{signed_decimal}
 use Rattle.std.specs.Str.Parse.{digits_value, starts_with_minus}
@@ -40,12 +41,18 @@ int-again (pos n) h =
     let fits : n < 2 ^ 64 = omega arith in
     let value : digits_value 10 (decimal n) ≡ n = digits_value-decimal own n fits in
     let small : digits_value 10 (decimal n) < 2 ^ 63 = rw value h in
-    rw (minus-false (decimal n) (plain-first n fits), lt-ltb 0 (length (decimal n)) (decimal_nonempty n fits), digits_decimal own n fits, lt-ltb _ _ small) (ap (λ (v : ℕ). Some (pos v)) value)
+    rw (
+      minus-false (decimal n) (plain-first n fits),
+      lt-ltb 0 (length (decimal n)) (decimal_nonempty n fits),
+      digits_decimal own n fits,
+      lt-ltb _ _ small,
+    ) (ap (λ (v : ℕ). Some (pos v)) value)
 int-again (negsuc n) h =
     let fits : suc n < 2 ^ 64 = omega arith in
     let value : digits_value 10 (decimal (suc n)) ≡ suc n = digits_value-decimal own (suc n) fits in
     let small : digits_value 10 (decimal (suc n)) ≤ 2 ^ 63 = rw value (omega arith) in
-    rw (lt-ltb 0 (length (decimal (suc n))) (decimal_nonempty (suc n) fits), digits_decimal own (suc n) fits, le-leb _ _ small) (ap (λ (v : ℕ). Some (neg_ℤ (pos v))) value)
+    rw (lt-ltb 0 (length (decimal (suc n))) (decimal_nonempty (suc n) fits), digits_decimal own (suc n) fits, le-leb _ _ small)
+    (ap (λ (v : ℕ). Some (neg_ℤ (pos v))) value)
 
 pub signed-some : (n : ℤ) → IsInt n → 0 < length (signed_decimal n)
 signed-some (pos n) h = decimal_nonempty n (omega arith)

@@ -1,5 +1,6 @@
 -- Bytes are one table at most, or have one first bad row and are none.
-use Rattle.std.proofs.Common.{◌≡◌, ◌≤◌, ◌<◌, ◌+◌, ℕ, zero, suc, List, [], ◌∷◌, ◌++◌, length, get_or, Some, None, refl, sym, ap, ◌∙◌, arith, subst, inl, inr, length-append}
+use Rattle.std.proofs.Common.{◌≡◌, ◌≤◌, ◌<◌, ◌+◌, ℕ, zero, suc, List, [], ◌∷◌, ◌++◌, length, get_or, Some, None, refl, sym, ap, ◌∙◌, arith}
+use Rattle.std.proofs.Common.{subst, inl, inr, length-append}
 use Rattle.std.proofs.lemmas.Bool.{cases_lt}
 use Rattle.query_model.specs.declared.bounds.TheConstants.{MOST_ROWS}
 use Rattle.query_model.specs.declared.cell.Cell.{Cell}
@@ -13,7 +14,8 @@ pub tails : (x : List (List ℕ)) (xs ys zs : List (List (List ℕ))) → zs ≡
 tails x xs ys zs e f = (let g : x ∷ xs ≡ x ∷ ys = sym e ∙ f in cc)
 
 -- records read as one list of rows
-each-same : (kinds : List Kind) (records : List (List (List ℕ))) (rows others : List (List Cell)) → EachReads kinds records rows → EachReads kinds records others → rows ≡ others
+each-same : (kinds : List Kind) (records : List (List (List ℕ))) (rows others : List (List Cell)) → EachReads kinds records rows
+    → EachReads kinds records others → rows ≡ others
 unfolding EachReads
 each-same kinds [] [] [] p q = refl
 each-same kinds [] [] (o ∷ os) p q = absurd q
@@ -25,7 +27,8 @@ each-same kinds (f ∷ fs) (r ∷ rs) (o ∷ os) p q =
     ap (λ (t : List Cell). t ∷ rs) first ∙ ap (λ (t : List (List Cell)). o ∷ t) (each-same kinds fs rs os p.1 q.1)
 
 -- each of the records that read as rows has a reading
-each-at : (kinds : List Kind) (records : List (List (List ℕ))) (rows : List (List Cell)) (n : ℕ) → EachReads kinds records rows → n < length records
+each-at : (kinds : List Kind) (records : List (List (List ℕ))) (rows : List (List Cell)) (n : ℕ) → EachReads kinds records rows
+    → n < length records
     → cells_of kinds (get_or records n []) ≡ None → ⊥
 unfolding EachReads
 each-at kinds [] rows n p within none = absurd (omega arith)
@@ -43,33 +46,43 @@ between : (before after : List (List (List ℕ))) (fields : List (List ℕ)) →
 between [] after fields = refl
 between (b ∷ bs) after fields = between bs after fields
 
-pub one-table : (columns : List Column) (bytes : List ℕ) (rows others : List (List Cell)) → IsTable columns bytes rows → IsTable columns bytes others → rows ≡ others
+pub one-table : (columns : List Column) (bytes : List ℕ) (rows others : List (List Cell)) → IsTable columns bytes rows
+    → IsTable columns bytes others → rows ≡ others
 one-table columns bytes rows others a b =
     let same : a.body ≡ b.body = tails (names_of columns) a.body b.body (records_of bytes) a.header b.header in
-    each-same (kinds_of columns) b.body rows others (subst (λ (t : List (List (List ℕ))). EachReads (kinds_of columns) t rows) same a.each) b.each
+    each-same (kinds_of columns) b.body rows others (subst (λ (t : List (List (List ℕ))). EachReads (kinds_of columns) t rows) same a.each)
+    b.each
 
-pub no-bad-row : (columns : List Column) (bytes : List ℕ) (rows : List (List Cell)) (number : ℕ) → IsTable columns bytes rows → IsFirstBad columns bytes number → ⊥
+pub no-bad-row : (columns : List Column) (bytes : List ℕ) (rows : List (List Cell)) (number : ℕ) → IsTable columns bytes rows
+    → IsFirstBad columns bytes number → ⊥
 no-bad-row columns bytes rows zero table bad = bad table.body table.header
 no-bad-row columns bytes rows (suc number) table bad =
-    let same : table.body ≡ bad.before ++ bad.fields ∷ bad.after = tails (names_of columns) table.body _ (records_of bytes) table.header bad.header in
-    let size : length table.body ≡ length bad.before + length (bad.fields ∷ bad.after) = ap length same ∙ length-append bad.before (bad.fields ∷ bad.after) in
+    let same : table.body ≡ bad.before ++ bad.fields ∷ bad.after = tails (names_of columns) table.body _ (records_of bytes) table.header
+    bad.header in
+    let size : length table.body ≡ length bad.before + length (bad.fields ∷ bad.after) = ap length same
+    ∙ length-append bad.before (bad.fields ∷ bad.after) in
     let more : length (bad.fields ∷ bad.after) ≡ suc (length bad.after) = refl in
     let within : length bad.before < length table.body = omega (arith, size, more) in
     let few : suc number ≤ MOST_ROWS = omega (arith, bad.place, within, table.few) in
-    let at : get_or table.body (length bad.before) [] ≡ bad.fields = ap (λ (t : List (List (List ℕ))). get_or t (length bad.before) []) same ∙ between bad.before bad.after bad.fields in
+    let at : get_or table.body (length bad.before) [] ≡ bad.fields = ap (λ (t : List (List (List ℕ))). get_or t (length bad.before) []) same
+    ∙ between bad.before bad.after bad.fields in
     each-at (kinds_of columns) table.body rows (length bad.before) table.each within (ap (cells_of (kinds_of columns)) at ∙ bad.bad few)
 
 -- an earlier row of a first bad one isn't bad
-earlier : (columns : List Column) (bytes : List ℕ) (number other : ℕ) → IsFirstBadRow columns bytes number → IsFirstBadRow columns bytes other → number < other → ⊥
+earlier : (columns : List Column) (bytes : List ℕ) (number other : ℕ) → IsFirstBadRow columns bytes number
+    → IsFirstBadRow columns bytes other → number < other → ⊥
 earlier columns bytes number other a b less =
-    let same : a.before ++ a.fields ∷ a.after ≡ b.before ++ b.fields ∷ b.after = tails (names_of columns) _ _ (records_of bytes) a.header b.header in
+    let same : a.before ++ a.fields ∷ a.after ≡ b.before ++ b.fields ∷ b.after = tails (names_of columns) _ _ (records_of bytes) a.header
+    b.header in
     let within : length a.before < length b.before = omega (arith, a.place, b.place, less) in
     let few : number ≤ MOST_ROWS = omega (arith, b.few, less) in
     let at : get_or b.before (length a.before) [] ≡ a.fields =
-    sym (get-front b.before (b.fields ∷ b.after) (length a.before) within) ∙ ap (λ (t : List (List (List ℕ))). get_or t (length a.before) []) (sym same) ∙ between a.before a.after a.fields in
+    sym (get-front b.before (b.fields ∷ b.after) (length a.before) within)
+    ∙ ap (λ (t : List (List (List ℕ))). get_or t (length a.before) []) (sym same) ∙ between a.before a.after a.fields in
     each-at (kinds_of columns) b.before b.rows (length a.before) b.each within (ap (cells_of (kinds_of columns)) at ∙ a.bad few)
 
-pub one-bad-row : (columns : List Column) (bytes : List ℕ) (number other : ℕ) → IsFirstBad columns bytes number → IsFirstBad columns bytes other → number ≡ other
+pub one-bad-row : (columns : List Column) (bytes : List ℕ) (number other : ℕ) → IsFirstBad columns bytes number
+    → IsFirstBad columns bytes other → number ≡ other
 one-bad-row columns bytes zero zero a b = refl
 one-bad-row columns bytes zero (suc other) a b = absurd (a _ b.header)
 one-bad-row columns bytes (suc number) zero a b = absurd (b _ a.header)

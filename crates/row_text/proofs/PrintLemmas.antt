@@ -1,9 +1,11 @@
 -- Cells as they are printed, and the records of rows.
-use Rattle.std.proofs.Common.{◌≡◌, ◌≤◌, ◌<◌, ◌+◌, ◌-◌, ℕ, zero, suc, List, [], ◌∷◌, ◌++◌, length, take, drop, map, get_or, Bool, true, false, Option, Some, None, refl, sym, ap, ◌∙◌, arith, append_assoc}
+use Rattle.std.proofs.Common.{◌≡◌, ◌≤◌, ◌<◌, ◌+◌, ◌-◌, ℕ, zero, suc, List, [], ◌∷◌, ◌++◌, length, take, drop, map, get_or, Bool, true}
+use Rattle.std.proofs.Common.{false, Option, Some, None, refl, sym, ap, ◌∙◌, arith, append_assoc}
 use Rattle.std.specs.Prelude.{flat_map, if◌then◌else◌}
 use Rattle.std.specs.Io.KnownBytes.{Appends}
 use Rattle.std.proofs.lemmas.Grind.{flat_map-append}
-use Rattle.std.proofs.lemmas.List.{append-nil, get_or-drop, get_or-map, get_or-take, length-map, length-take, map-append, take_all, take_more}
+use Rattle.std.proofs.lemmas.List.{append-nil, get_or-drop, get_or-map, get_or-take, length-map, length-take, map-append, take_all}
+use Rattle.std.proofs.lemmas.List.{take_more}
 use Rattle.csv.specs.Records.{Rising, cut_from, last_end}
 use Rattle.csv.specs.Writing.{default_writer, row_text}
 use Rattle.query_model.specs.Cells.{printed}
@@ -20,8 +22,10 @@ abbrev fields_of_row_list : List (List Cell) → List (List (List ℕ))
 fields_of_row_list rows = map fields_of_row rows
 
 -- the number of a place, as it is printed
-pub number-printed : {N : Type 0} (cell : N → Cell) (values : List N) (known : List Bool) (place : ℕ) (d : N) → length values ≡ length known → place < length values
-    → printed (get_or (numbers cell values known) place Null) ≡ (if get_or known place false then printed (cell (get_or values place d)) else [])
+pub number-printed : {N : Type 0} (cell : N → Cell) (values : List N) (known : List Bool) (place : ℕ) (d : N) → length values ≡ length known
+    → place < length values
+    → printed (get_or (numbers cell values known) place Null) ≡ (if get_or known place false then printed (cell (get_or values place d))
+    else [])
 unfolding numbers
 number-printed cell [] known place d same within = absurd (omega arith)
 number-printed cell (v ∷ vs) [] place d same within = absurd (omega arith)
@@ -31,7 +35,8 @@ number-printed cell (v ∷ vs) (m ∷ ms) (suc place) d same within = number-pri
 
 -- the text of a place: it begins where the one before it ends
 cut-at : (place start : ℕ) (ends bytes : List ℕ) → place < length ends
-    → get_or (cut_from start ends bytes) place [] ≡ take (get_or ends place 0 - last_end start (take place ends)) (drop (last_end start (take place ends)) bytes)
+    → get_or (cut_from start ends bytes) place [] ≡ take (get_or ends place 0 - last_end start (take place ends))
+    (drop (last_end start (take place ends)) bytes)
 unfolding cut_from last_end
 cut-at place start [] bytes within = absurd (omega arith)
 cut-at zero start (e ∷ es) bytes within = refl
@@ -52,7 +57,8 @@ pub text-cut : (bytes ends : List ℕ) (place start : ℕ) → place < length en
     → take (get_or ends place 0 - start) (drop start bytes) ≡ get_or (cut_from 0 ends bytes) place []
 text-cut bytes ends place start within e = rw e (sym (cut-at place 0 ends bytes within))
 
-pub text-printed : (bytes ends : List ℕ) (place : ℕ) → place < length ends → printed (get_or (texts bytes ends) place Null) ≡ get_or (cut_from 0 ends bytes) place []
+pub text-printed : (bytes ends : List ℕ) (place : ℕ) → place < length ends
+    → printed (get_or (texts bytes ends) place Null) ≡ get_or (cut_from 0 ends bytes) place []
 text-printed bytes ends place within =
     let inside : place < length (cut_from 0 ends bytes) = rw (cuts-length 0 ends bytes) within in
     ap printed (get_or-map Text (cut_from 0 ends bytes) place [] Null inside)
@@ -87,12 +93,15 @@ row-there count place (c ∷ cs) long within =
 abbrev pub fields_at : ℕ → List ColumnCells → List (List ℕ)
 fields_at place columns = map (λ column. printed (get_or column.cells place Null)) columns
 
-fields-there : (place : ℕ) (columns : List ColumnCells) → fields_of_row (map (λ (column : ColumnCells). get_or column.cells place Null) columns) ≡ fields_at place columns
+fields-there : (place : ℕ) (columns : List ColumnCells)
+    → fields_of_row (map (λ (column : ColumnCells). get_or column.cells place Null) columns) ≡ fields_at place columns
 fields-there place [] = refl
 fields-there place (c ∷ cs) = ap (λ (t : List (List ℕ)). printed (get_or c.cells place Null) ∷ t) (fields-there place cs)
 
-pub fields-more : (place : ℕ) (columns : List ColumnCells) (n : ℕ) (column : ColumnCells) (old new : List (List ℕ)) → n < length columns → column ≡ get_or columns n column
-    → old ≡ fields_at place (take n columns) → new ≡ old ++ printed (get_or column.cells place Null) ∷ [] → new ≡ fields_at place (take (n + 1) columns)
+pub fields-more : (place : ℕ) (columns : List ColumnCells) (n : ℕ) (column : ColumnCells) (old new : List (List ℕ)) → n < length columns
+    → column ≡ get_or columns n column
+    → old ≡ fields_at place (take n columns) → new ≡ old ++ printed (get_or column.cells place Null) ∷ []
+    → new ≡ fields_at place (take (n + 1) columns)
 fields-more place columns n column old new within is e f =
     f ∙ ap (λ (t : List (List ℕ)). t ++ printed (get_or column.cells place Null) ∷ []) e
     ∙ ap (λ (c : ColumnCells). fields_at place (take n columns) ++ printed (get_or c.cells place Null) ∷ []) is
@@ -110,18 +119,22 @@ range-all from to table range = omega (arith, range.order, range.within)
 
 -- the place of a row of a part is within each column
 pub place-within : (table : Table) (count from len row n : ℕ) (columns : List ColumnCells) (column : ColumnCells)
-    → table ≡ table_of count columns → IsStoredTable count columns → from + len ≤ length table.rows → row < length (part_of from len table).rows
+    → table ≡ table_of count columns → IsStoredTable count columns → from + len ≤ length table.rows
+    → row < length (part_of from len table).rows
     → n < length columns → column ≡ get_or columns n column → from + row < length column.cells
 place-within table count from len row n columns column same stored all within inside is =
     let rows : length table.rows ≡ count = stored-length table count columns same stored in
     let there : row < len = part-row table from len row all within in
     let at = stored.long n [] (rw (length-map columns (λ (c : ColumnCells). c.cells)) inside) in
-    let size : length column.cells ≡ count = ap (λ (c : ColumnCells). length c.cells) is ∙ ap length (sym (get_or-map (λ (c : ColumnCells). c.cells) columns n column [] inside)) ∙ at in
+    let size : length column.cells ≡ count = ap (λ (c : ColumnCells). length c.cells) is
+    ∙ ap length (sym (get_or-map (λ (c : ColumnCells). c.cells) columns n column [] inside)) ∙ at in
     omega (arith, rows, there, size, all)
 
 pub row-fields : (table : Table) (count from len row n : ℕ) (columns : List ColumnCells) (fields : List (List ℕ))
-    → table ≡ table_of count columns → IsStoredTable count columns → from + len ≤ length table.rows → row < length (part_of from len table).rows
-    → length columns ≤ n → fields ≡ fields_at (from + row) (take n columns) → fields ≡ fields_of_row (get_or (part_of from len table).rows row [])
+    → table ≡ table_of count columns → IsStoredTable count columns → from + len ≤ length table.rows
+    → row < length (part_of from len table).rows
+    → length columns ≤ n → fields ≡ fields_at (from + row) (take n columns)
+    → fields ≡ fields_of_row (get_or (part_of from len table).rows row [])
 row-fields table count from len row n columns fields same stored all within past e =
     let rows : length table.rows ≡ count = stored-length table count columns same stored in
     let there : row < len = part-row table from len row all within in
@@ -130,10 +143,12 @@ row-fields table count from len row n columns fields same stored all within past
     get_or-take len (drop from table.rows) row [] there ∙ get_or-drop from table.rows row [] in
     let row_is : get_or table.rows (from + row) [] ≡ map (λ (column : ColumnCells). get_or column.cells (from + row) Null) columns =
     ap (λ (t : Table). get_or t.rows (from + row) []) same ∙ row-there count (from + row) columns stored.long inside in
-    e ∙ ap (fields_at (from + row)) (take_all n columns past) ∙ sym (fields-there (from + row) columns) ∙ ap fields_of_row (sym row_is) ∙ ap fields_of_row (sym part)
+    e ∙ ap (fields_at (from + row)) (take_all n columns past) ∙ sym (fields-there (from + row) columns) ∙ ap fields_of_row (sym row_is)
+    ∙ ap fields_of_row (sym part)
 
 -- the number of a place, as a cell
-pub number-at : {N : Type 0} (cell : N → Cell) (values : List N) (known : List Bool) (place : ℕ) (d : N) → length values ≡ length known → place < length values
+pub number-at : {N : Type 0} (cell : N → Cell) (values : List N) (known : List Bool) (place : ℕ) (d : N) → length values ≡ length known
+    → place < length values
     → get_or (numbers cell values known) place Null ≡ (if get_or known place false then cell (get_or values place d) else Null)
 unfolding numbers
 number-at cell [] known place d same within = absurd (omega arith)
@@ -141,7 +156,8 @@ number-at cell (v ∷ vs) [] place d same within = absurd (omega arith)
 number-at cell (v ∷ vs) (m ∷ ms) zero d same within = refl
 number-at cell (v ∷ vs) (m ∷ ms) (suc place) d same within = number-at cell vs ms place d (omega arith) (omega arith)
 
-pub text-there : (bytes ends : List ℕ) (place : ℕ) → place < length ends → get_or (texts bytes ends) place Null ≡ Text (get_or (cut_from 0 ends bytes) place [])
+pub text-there : (bytes ends : List ℕ) (place : ℕ) → place < length ends
+    → get_or (texts bytes ends) place Null ≡ Text (get_or (cut_from 0 ends bytes) place [])
 text-there bytes ends place within =
     let inside : place < length (cut_from 0 ends bytes) = rw (cuts-length 0 ends bytes) within in
     get_or-map Text (cut_from 0 ends bytes) place [] Null inside
@@ -150,7 +166,8 @@ text-there bytes ends place within =
 abbrev pub cells_at : ℕ → List ColumnCells → List Cell
 cells_at place columns = map (λ column. get_or column.cells place Null) columns
 
-pub cells-more : (place : ℕ) (columns : List ColumnCells) (n : ℕ) (column : ColumnCells) (old new : List Cell) → n < length columns → column ≡ get_or columns n column
+pub cells-more : (place : ℕ) (columns : List ColumnCells) (n : ℕ) (column : ColumnCells) (old new : List Cell) → n < length columns
+    → column ≡ get_or columns n column
     → old ≡ cells_at place (take n columns) → new ≡ old ++ get_or column.cells place Null ∷ [] → new ≡ cells_at place (take (n + 1) columns)
 cells-more place columns n column old new within is e f =
     f ∙ ap (λ (t : List Cell). t ++ get_or column.cells place Null ∷ []) e
@@ -159,7 +176,8 @@ cells-more place columns n column old new within is e f =
     ∙ ap (cells_at place) (sym (take_more columns n column within))
 
 pub row-cells : (table : Table) (count from len row n : ℕ) (columns : List ColumnCells) (cells : List Cell)
-    → table ≡ table_of count columns → IsStoredTable count columns → from + len ≤ length table.rows → row < length (part_of from len table).rows
+    → table ≡ table_of count columns → IsStoredTable count columns → from + len ≤ length table.rows
+    → row < length (part_of from len table).rows
     → length columns ≤ n → cells ≡ cells_at (from + row) (take n columns) → cells ≡ get_or (part_of from len table).rows row []
 row-cells table count from len row n columns cells same stored all within past e =
     let rows : length table.rows ≡ count = stored-length table count columns same stored in
@@ -191,11 +209,14 @@ pub text-more : (header : List (List ℕ)) (rows : List (List Cell)) (n : ℕ) �
 text-more header rows n within =
     let one : fields_of_row_list (take (n + 1) rows) ≡ fields_of_row_list (take n rows) ++ fields_of_row (get_or rows n []) ∷ [] =
     ap fields_of_row_list (take_more rows n [] within) ∙ map-append fields_of_row (take n rows) (get_or rows n [] ∷ []) in
-    let last : flat_map (row_text default_writer) (fields_of_row (get_or rows n []) ∷ []) ≡ row_text default_writer (fields_of_row (get_or rows n [])) =
+    let last : flat_map (row_text default_writer) (fields_of_row (get_or rows n []) ∷ []) ≡ row_text default_writer
+    (fields_of_row (get_or rows n [])) =
     append-nil (row_text default_writer (fields_of_row (get_or rows n []))) in
     let all : flat_map (row_text default_writer) (fields_of_row_list (take (n + 1) rows))
     ≡ flat_map (row_text default_writer) (fields_of_row_list (take n rows)) ++ row_text default_writer (fields_of_row (get_or rows n [])) =
-    ap (flat_map (row_text default_writer)) one ∙ flat_map-append (row_text default_writer) (fields_of_row_list (take n rows)) (fields_of_row (get_or rows n []) ∷ [])
+    ap (flat_map (row_text default_writer)) one
+    ∙ flat_map-append (row_text default_writer) (fields_of_row_list (take n rows)) (fields_of_row (get_or rows n []) ∷ [])
     ∙ ap (λ (t : List ℕ). flat_map (row_text default_writer) (fields_of_row_list (take n rows)) ++ t) last in
-    append_assoc (row_text default_writer header) (flat_map (row_text default_writer) (fields_of_row_list (take n rows))) (row_text default_writer (fields_of_row (get_or rows n [])))
+    append_assoc (row_text default_writer header) (flat_map (row_text default_writer) (fields_of_row_list (take n rows)))
+    (row_text default_writer (fields_of_row (get_or rows n [])))
     ∙ ap (λ (t : List ℕ). row_text default_writer header ++ t) (sym all)

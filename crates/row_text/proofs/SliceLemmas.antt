@@ -1,5 +1,6 @@
 -- Parts of columns, and columns of rows.
-use Rattle.std.proofs.Common.{◌≡◌, ◌≤◌, ◌<◌, ◌+◌, ◌-◌, ℕ, zero, suc, List, [], ◌∷◌, length, take, drop, map, get_or, Bool, true, Some, refl, sym, ap, ◌∙◌, arith, subst}
+use Rattle.std.proofs.Common.{◌≡◌, ◌≤◌, ◌<◌, ◌+◌, ◌-◌, ℕ, zero, suc, List, [], ◌∷◌, length, take, drop, map, get_or, Bool, true, Some, refl}
+use Rattle.std.proofs.Common.{sym, ap, ◌∙◌, arith, subst}
 use Rattle.std.specs.Prelude.{if◌then◌else◌, nat_lt, slice_get}
 use Rattle.std.proofs.lemmas.List.{drop-map, take-map, take_all, length-map}
 use Rattle.std.proofs.lemmas.Bool.{ltb-true}
@@ -17,14 +18,16 @@ use Rattle.row_text.specs.Stored.{column_of as column_of_stored}
 use Rattle.row_text.proofs.TableLemmas.{long-head, long-tail, rows-length}
 
 -- numbers beside their marks, part by part
-pub numbers-length : {N : Type 0} (cell : N → Cell) (values : List N) (known : List Bool) → length values ≡ length known → length (numbers cell values known) ≡ length values
+pub numbers-length : {N : Type 0} (cell : N → Cell) (values : List N) (known : List Bool) → length values ≡ length known
+    → length (numbers cell values known) ≡ length values
 unfolding numbers
 numbers-length cell [] [] e = refl
 numbers-length cell [] (m ∷ ms) e = refl
 numbers-length cell (v ∷ vs) [] e = absurd (omega arith)
 numbers-length cell (v ∷ vs) (m ∷ ms) e = ap suc (numbers-length cell vs ms (omega arith))
 
-numbers-take : {N : Type 0} (cell : N → Cell) (n : ℕ) (values : List N) (known : List Bool) → numbers cell (take n values) (take n known) ≡ take n (numbers cell values known)
+numbers-take : {N : Type 0} (cell : N → Cell) (n : ℕ) (values : List N) (known : List Bool)
+    → numbers cell (take n values) (take n known) ≡ take n (numbers cell values known)
 unfolding numbers
 numbers-take cell zero vs ms = refl
 numbers-take cell (suc n) [] ms = refl
@@ -54,7 +57,8 @@ cuts-length start (e ∷ es) bytes = ap suc (cuts-length e es bytes)
 pub texts-length : (bytes ends : List ℕ) → length (texts bytes ends) ≡ length ends
 texts-length bytes ends = length-map (cut_from 0 ends bytes) Text ∙ cuts-length 0 ends bytes
 
-cuts-drop : (n start : ℕ) (ends bytes : List ℕ) → cut_from (last_end start (take n ends)) (drop n ends) bytes ≡ drop n (cut_from start ends bytes)
+cuts-drop : (n start : ℕ) (ends bytes : List ℕ)
+    → cut_from (last_end start (take n ends)) (drop n ends) bytes ≡ drop n (cut_from start ends bytes)
 unfolding cut_from last_end
 cuts-drop zero start ends bytes = refl
 cuts-drop (suc n) start [] bytes = refl
@@ -106,7 +110,8 @@ last-taken n start [] h = absurd (omega arith)
 last-taken zero start (e ∷ es) h = refl
 last-taken (suc n) start (e ∷ es) h = last-taken n e es (omega arith)
 
-pub start-later : (place : ℕ) (ends : List ℕ) → (place ≡ 0 → ⊥) → place ≤ length ends → get_or ends (place - 1) 0 ≡ last_end 0 (take place ends)
+pub start-later : (place : ℕ) (ends : List ℕ) → (place ≡ 0 → ⊥) → place ≤ length ends
+    → get_or ends (place - 1) 0 ≡ last_end 0 (take place ends)
 start-later zero ends n h = absurd (n refl)
 start-later (suc place) ends n h =
     let same : suc place - 1 ≡ place = omega arith in
@@ -119,7 +124,8 @@ column-first [] rows e = refl
 column-first (c ∷ cs) [] e = absurd (omega arith)
 column-first (c ∷ cs) (r ∷ rs) e = ap (λ (t : List Cell). c ∷ t) (column-first cs rs (omega arith))
 
-column-next : (n : ℕ) (column : List Cell) (rows : List (List Cell)) → length column ≡ length rows → column_of (suc n) (beside column rows) ≡ column_of n rows
+column-next : (n : ℕ) (column : List Cell) (rows : List (List Cell)) → length column ≡ length rows
+    → column_of (suc n) (beside column rows) ≡ column_of n rows
 unfolding beside
 column-next n [] [] e = refl
 column-next n [] (r ∷ rs) e = absurd (omega arith)
@@ -127,7 +133,8 @@ column-next n (c ∷ cs) [] e = absurd (omega arith)
 column-next n (c ∷ cs) (r ∷ rs) e = ap (λ (t : List Cell). cell_at n r ∷ t) (column-next n cs rs (omega arith))
 
 -- a column of the rows that columns make
-pub column-there : (count : ℕ) (columns : List ColumnCells) (n : ℕ) (column : ColumnCells) → AreLong count (cells_in columns) → slice_get columns n ≡ Some column
+pub column-there : (count : ℕ) (columns : List ColumnCells) (n : ℕ) (column : ColumnCells) → AreLong count (cells_in columns)
+    → slice_get columns n ≡ Some column
     → (length column.cells ≡ count) × (n < length (kinds_in columns)) × (slice_get (kinds_in columns) n ≡ Some column.kind)
     × (column_of n (rows_from count (cells_in columns)) ≡ column.cells)
 unfolding rows_from
@@ -135,7 +142,8 @@ column-there count [] n column long e = cc e
 column-there count (c ∷ cs) zero column long e =
     let same : c ≡ column = cc in
     let size : length c.cells ≡ count = long-head count c.cells (cells_in cs) long in
-    let rest : length (rows_from count (cells_in cs)) ≡ count = rows-length count (cells_in cs) (long-tail count c.cells (cells_in cs) long) in (
+    let rest : length (rows_from count (cells_in cs)) ≡ count = rows-length count (cells_in cs)
+    (long-tail count c.cells (cells_in cs) long) in (
       ap (λ (k : ColumnCells). length k.cells) (sym same) ∙ size,
       omega arith,
       ap (λ (k : ColumnCells). Some k.kind) same,
@@ -166,13 +174,15 @@ column-part table count from len n columns column slice same stored e kind cells
     subst (λ (t : Table). IsColumnOf (part_of from len t) n slice) (sym same) (record {
       within = within;
       kind = there ∙ ap Some (sym kind);
-      cells = cells ∙ ap (λ (t : List Cell). take len (drop from t)) (sym all) ∙ ap (take len) (drop-map (cell_at n) from (rows_from count (cells_in columns)))
+      cells = cells ∙ ap (λ (t : List Cell). take len (drop from t)) (sym all)
+          ∙ ap (take len) (drop-map (cell_at n) from (rows_from count (cells_in columns)))
           ∙ take-map (cell_at n) len (drop from (rows_from count (cells_in columns)));
       slices = slices;
     })
 
 pub column-long : (table : Table) (count from len n : ℕ) (columns : List ColumnCells) (column : ColumnCells)
-    → table ≡ table_of count columns → IsStoredTable count columns → slice_get columns n ≡ Some column → from + len ≤ length table.rows → from + len ≤ length column.cells
+    → table ≡ table_of count columns → IsStoredTable count columns → slice_get columns n ≡ Some column → from + len ≤ length table.rows
+    → from + len ≤ length column.cells
 column-long table count from len n columns column same stored e within =
     let there = column-there count columns n column stored.long e in
     let size : length column.cells ≡ count = there.0 in
@@ -180,10 +190,12 @@ column-long table count from len n columns column same stored e within =
     omega (arith, size, rows, within)
 
 -- all rows of a table
-pub stored-length : (table : Table) (count : ℕ) (columns : List ColumnCells) → table ≡ table_of count columns → IsStoredTable count columns → length table.rows ≡ count
+pub stored-length : (table : Table) (count : ℕ) (columns : List ColumnCells) → table ≡ table_of count columns → IsStoredTable count columns
+    → length table.rows ≡ count
 stored-length table count columns same stored = ap (λ (t : Table). length t.rows) same ∙ rows-length count (cells_in columns) stored.long
 
-pub stored-typed : (table : Table) (count : ℕ) (columns : List ColumnCells) → table ≡ table_of count columns → IsStoredTable count columns → AreRows table.kinds table.rows
+pub stored-typed : (table : Table) (count : ℕ) (columns : List ColumnCells) → table ≡ table_of count columns → IsStoredTable count columns
+    → AreRows table.kinds table.rows
 stored-typed table count columns same stored = subst (λ (t : Table). AreRows t.kinds t.rows) (sym same) stored.typed
 
 pub part-all : (table : Table) (count : ℕ) → length table.rows ≡ count → part_of 0 (count - 0) table ≡ table

@@ -1,5 +1,6 @@
 -- Columns with a cell more.
-use Rattle.std.proofs.Common.{◌≡◌, ◌+◌, ℕ, zero, suc, List, [], ◌∷◌, ◌++◌, length, drop, map, Bool, true, false, Some, None, refl, sym, ap, ◌∙◌, arith, subst, inl, inr, length-append}
+use Rattle.std.proofs.Common.{◌≡◌, ◌+◌, ℕ, zero, suc, List, [], ◌∷◌, ◌++◌, length, drop, map, Bool, true, false, Some, None, refl, sym, ap}
+use Rattle.std.proofs.Common.{◌∙◌, arith, subst, inl, inr, length-append}
 use Rattle.std.specs.Prelude.{ℤ, ◌==◌, IsUtf8, nat_lt, if◌then◌else◌, option_map}
 use Rattle.std.specs.Str.{IsAscii, is_utf8}
 use Rattle.std.specs.List.{list_all}
@@ -21,7 +22,8 @@ unfolding numbers
 numbers-more cell [] [] v k e = refl
 numbers-more cell [] (m ∷ ms) v k e = absurd (omega arith)
 numbers-more cell (x ∷ xs) [] v k e = absurd (omega arith)
-numbers-more cell (x ∷ xs) (m ∷ ms) v k e = ap (λ (t : List Cell). (if m then cell x else Null) ∷ t) (numbers-more cell xs ms v k (omega arith))
+numbers-more cell (x ∷ xs) (m ∷ ms) v k e = ap (λ (t : List Cell). (if m then cell x else Null) ∷ t)
+    (numbers-more cell xs ms v k (omega arith))
 
 -- no texts
 pub texts-none : AreTexts [] []
@@ -43,17 +45,21 @@ cuts bytes ends field h =
     ∙ ap (λ (t : List (List ℕ)). t ++ drop (last_end 0 ends) (bytes ++ field) ∷ []) (cut-more 0 ends bytes field h.rising)
     ∙ ap (λ (t : List ℕ). cut_from 0 ends bytes ++ t ∷ []) last
 
-pub texts-more : (bytes ends field : List ℕ) → AreTexts bytes ends → is_utf8 field ≡ true → AreTexts (bytes ++ field) (ends ++ (length bytes + length field) ∷ [])
+pub texts-more : (bytes ends field : List ℕ) → AreTexts bytes ends → is_utf8 field ≡ true
+    → AreTexts (bytes ++ field) (ends ++ (length bytes + length field) ∷ [])
 texts-more bytes ends field h utf8 =
     let size : length (bytes ++ field) ≡ length bytes + length field = length-append bytes field in
-    let up : Rising 0 ends (length bytes + length field) = rising-more 0 ends (length bytes) (length bytes + length field) h.rising (omega arith) in
+    let up : Rising 0 ends (length bytes + length field) = rising-more 0 ends (length bytes) (length bytes + length field) h.rising
+    (omega arith) in
     record {
       rising = rw size (rising-end 0 ends (length bytes + length field) up);
       whole = last-append 0 ends (length bytes + length field) ∙ sym size;
-      text = subst AllText (sym (cuts bytes ends field h)) (text-more (cut_from 0 ends bytes) field h.text (IsUtf8-from_is_utf8 field utf8));
+      text = subst AllText (sym (cuts bytes ends field h))
+          (text-more (cut_from 0 ends bytes) field h.text (IsUtf8-from_is_utf8 field utf8));
     }
 
-pub texts-cells : (bytes ends field : List ℕ) → AreTexts bytes ends → texts (bytes ++ field) (ends ++ (length bytes + length field) ∷ []) ≡ texts bytes ends ++ Text field ∷ []
+pub texts-cells : (bytes ends field : List ℕ) → AreTexts bytes ends
+    → texts (bytes ++ field) (ends ++ (length bytes + length field) ∷ []) ≡ texts bytes ends ++ Text field ∷ []
 texts-cells bytes ends field h = ap (map Text) (cuts bytes ends field h) ∙ map-append Text (cut_from 0 ends bytes) (field ∷ [])
 
 -- bytes below 128 are text
@@ -73,7 +79,8 @@ utf8-not field h =
     ]
 
 -- an empty int field is null
-pub takes-null : (field : List ℕ) (v : ℤ) (values values2 : List ℤ) (known known2 : List Bool) → (length field == 0) ≡ true → length values ≡ length known
+pub takes-null : (field : List ℕ) (v : ℤ) (values values2 : List ℤ) (known known2 : List Bool) → (length field == 0) ≡ true
+    → length values ≡ length known
     → values2 ≡ values ++ v ∷ [] → known2 ≡ known ++ false ∷ []
     → TakesField kind.Int field (numbers (λ n. Int n) values known) (numbers (λ n. Int n) values2 known2) true
 takes-null [] v values values2 known known2 empty same e f = (Null, refl, rw (e, f) (numbers-more (λ n. Int n) values known v false same))
@@ -81,7 +88,8 @@ takes-null (b ∷ bs) v values values2 known known2 empty same e f =
     let none : length (b ∷ bs) ≡ 0 = eqb-true _ _ empty in absurd (omega (arith, none))
 
 -- another one is a number
-pub takes-number : (field : List ℕ) (v : ℤ) (values values2 : List ℤ) (known known2 : List Bool) → (length field == 0) ≡ false → Some v ≡ int_of field
+pub takes-number : (field : List ℕ) (v : ℤ) (values values2 : List ℤ) (known known2 : List Bool) → (length field == 0) ≡ false
+    → Some v ≡ int_of field
     → length values ≡ length known → values2 ≡ values ++ v ∷ [] → known2 ≡ known ++ true ∷ []
     → TakesField kind.Int field (numbers (λ n. Int n) values known) (numbers (λ n. Int n) values2 known2) true
 takes-number [] v values values2 known known2 some read same e f = absurd (false≢true (sym some))
@@ -94,7 +102,8 @@ takes-no-number [] some read = absurd (false≢true (sym some))
 takes-no-number (b ∷ bs) some read = ap (option_map (λ n. Int n)) (sym read)
 
 -- a text field
-pub takes-text : (bytes bytes2 ends ends2 field : List ℕ) (end : ℕ) → AreTexts bytes ends → true ≡ is_utf8 field → end ≡ length bytes + length field
+pub takes-text : (bytes bytes2 ends ends2 field : List ℕ) (end : ℕ) → AreTexts bytes ends → true ≡ is_utf8 field
+    → end ≡ length bytes + length field
     → bytes2 ≡ bytes ++ field → ends2 ≡ ends ++ end ∷ []
     → AreTexts bytes2 ends2 × TakesField kind.Text field (texts bytes ends) (texts bytes2 ends2) true
 takes-text bytes bytes2 ends ends2 field end h utf8 e f g =

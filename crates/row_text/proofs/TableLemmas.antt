@@ -1,9 +1,11 @@
 -- Columns as rows.
-use Rattle.std.proofs.Common.{Bor, ◌≡◌, ◌≤◌, ◌<◌, ◌+◌, ℕ, zero, suc, List, [], ◌∷◌, ◌++◌, length, take, drop, get_or, true, Option, Some, None, refl, sym, ap, ◌∙◌, arith, subst, inl, inr, append_assoc, length-append}
+use Rattle.std.proofs.Common.{Bor, ◌≡◌, ◌≤◌, ◌<◌, ◌+◌, ℕ, zero, suc, List, [], ◌∷◌, ◌++◌, length, take, drop, get_or, true, Option, Some}
+use Rattle.std.proofs.Common.{None, refl, sym, ap, ◌∙◌, arith, subst, inl, inr, append_assoc, length-append}
 use Rattle.std.proofs.Math.ListN.{set}
 use Rattle.std.proofs.lemmas.Grind.{replicate_next}
 use Rattle.std.proofs.lemmas.Bool.{cases_eq}
-use Rattle.std.proofs.lemmas.List.{append-nil, drop_all, get_or-map, get_or-set_other, get_or-set_same, length-map, length-replicate, map-append, take_all, take_more}
+use Rattle.std.proofs.lemmas.List.{append-nil, drop_all, get_or-map, get_or-set_other, get_or-set_same, length-map, length-replicate}
+use Rattle.std.proofs.lemmas.List.{map-append, take_all, take_more}
 use Rattle.std.proofs.lemmas.List.Elements.{All-cons, All-nil, All-push}
 use Rattle.csv.specs.Records.{field_at}
 use Rattle.csv.proofs.RecordFacts.{field-get}
@@ -65,7 +67,9 @@ long-more count [] [] h e = All-nil _
 long-more count [] (c ∷ cs) h e = absurd (omega arith)
 long-more count (column ∷ columns) [] h e = absurd (omega arith)
 long-more count (column ∷ columns) (c ∷ cs) h e =
-    All-cons (λ (t : List Cell). length t ≡ count + 1) (column ++ c ∷ []) (with_row columns cs) (length-append column (c ∷ []) ∙ ap (λ (n : ℕ). n + 1) (long-head count column columns h)) (long-more count columns cs (long-tail count column columns h) (omega arith))
+    All-cons (λ (t : List Cell). length t ≡ count + 1) (column ++ c ∷ []) (with_row columns cs)
+    (length-append column (c ∷ []) ∙ ap (λ (n : ℕ). n + 1) (long-head count column columns h))
+    (long-more count columns cs (long-tail count column columns h) (omega arith))
 
 joined-none : (cell : Option Cell) → joined cell None ≡ None
 joined-none None = refl
@@ -78,7 +82,8 @@ joined-some None cells row e = cc e
 joined-some (Some c) None row e = cc e
 joined-some (Some c) (Some cs) row e = (c, cs, refl, (let f : Some (c ∷ cs) ≡ Some row = e in cc))
 
-pub cells-length : (kinds : List Kind) (fields : List (List ℕ)) (cells : List Cell) → cells_of kinds fields ≡ Some cells → length cells ≡ length kinds
+pub cells-length : (kinds : List Kind) (fields : List (List ℕ)) (cells : List Cell) → cells_of kinds fields ≡ Some cells
+    → length cells ≡ length kinds
 unfolding cells_of
 cells-length [] [] cells e = (let f : Some [] ≡ Some cells = e in let g : [] ≡ cells = cc in ap length (sym g))
 cells-length [] (f ∷ fs) cells e = cc e
@@ -88,7 +93,8 @@ cells-length (k ∷ ks) (f ∷ fs) cells e =
     ap length whole ∙ ap suc (cells-length ks fs cs rest)
 
 -- too few fields, or too many
-pub none-of-lengths : (columns : List ColumnCells) (fields : List (List ℕ)) → (length fields ≡ length columns → ⊥) → cells_of (kinds_in columns) fields ≡ None
+pub none-of-lengths : (columns : List ColumnCells) (fields : List (List ℕ)) → (length fields ≡ length columns → ⊥)
+    → cells_of (kinds_in columns) fields ≡ None
 unfolding cells_of
 none-of-lengths [] [] h = absurd (h refl)
 none-of-lengths [] (f ∷ fs) h = refl
@@ -96,7 +102,8 @@ none-of-lengths (k ∷ ks) [] h = refl
 none-of-lengths (k ∷ ks) (f ∷ fs) h = ap (joined (cell_of k.kind f)) (none-of-lengths ks fs (λ e. h (ap suc e))) ∙ joined-none _
 
 -- one field is no cell
-pub none-at : (columns : List ColumnCells) (fields : List (List ℕ)) (i : ℕ) (d : ColumnCells) → i < length columns → length fields ≡ length columns
+pub none-at : (columns : List ColumnCells) (fields : List (List ℕ)) (i : ℕ) (d : ColumnCells) → i < length columns
+    → length fields ≡ length columns
     → cell_of (get_or columns i d).kind (get_or fields i []) ≡ None → cells_of (kinds_in columns) fields ≡ None
 unfolding cells_of
 none-at [] fields i d within e h = absurd (omega arith)
@@ -163,7 +170,8 @@ same-lists [] [] e h = refl
 same-lists [] (y ∷ ys) e h = absurd (omega arith)
 same-lists (x ∷ xs) [] e h = absurd (omega arith)
 same-lists (x ∷ xs) (y ∷ ys) e h =
-    ap (λ (t : List ℕ). t ∷ xs) (h 0 (omega arith)) ∙ ap (λ (t : List (List ℕ)). y ∷ t) (same-lists xs ys (omega arith) (λ k within. h (suc k) (omega arith)))
+    ap (λ (t : List ℕ). t ∷ xs) (h 0 (omega arith))
+    ∙ ap (λ (t : List (List ℕ)). y ∷ t) (same-lists xs ys (omega arith) (λ k within. h (suc k) (omega arith)))
 
 pub header-same : (columns : List Column) (fields : List (List ℕ)) → length fields ≡ length columns
     → ((k : ℕ) → k < length columns → get_or fields k [] ≡ get_or (names_of columns) k []) → fields ≡ names_of columns
@@ -171,35 +179,46 @@ header-same columns fields e h =
     same-lists fields (names_of columns) (e ∙ sym (length-map columns (λ (column : Column). column.name))) (λ k within. h k (omega arith))
 
 -- the field at i is the name there
-pub name-at : (columns : List Column) (fields : List (List ℕ)) (i : ℕ) (column : Column) (field : List ℕ) → i < length columns → column ≡ get_or columns i column
+pub name-at : (columns : List Column) (fields : List (List ℕ)) (i : ℕ) (column : Column) (field : List ℕ) → i < length columns
+    → column ≡ get_or columns i column
     → Some field ≡ field_at fields i → field ≡ column.name → get_or fields i [] ≡ get_or (names_of columns) i []
 name-at columns fields i column field within e at same =
     field-get fields i field (sym at) ∙ same ∙ ap (λ (c : Column). c.name) e ∙ sym (names-at columns i column within)
 
 -- or it isn't
-pub name-not : (columns : List Column) (fields : List (List ℕ)) (i : ℕ) (column : Column) (field : List ℕ) → i < length columns → column ≡ get_or columns i column
+pub name-not : (columns : List Column) (fields : List (List ℕ)) (i : ℕ) (column : Column) (field : List ℕ) → i < length columns
+    → column ≡ get_or columns i column
     → Some field ≡ field_at fields i → fields ≡ names_of columns → field ≡ column.name
 name-not columns fields i column field within e at all =
-    sym (field-get fields i field (sym at)) ∙ ap (λ (t : List (List ℕ)). get_or t i []) all ∙ names-at columns i column within ∙ ap (λ (c : Column). c.name) (sym e)
+    sym (field-get fields i field (sym at)) ∙ ap (λ (t : List (List ℕ)). get_or t i []) all ∙ names-at columns i column within
+    ∙ ap (λ (c : Column). c.name) (sym e)
 
 pub length-names : (columns : List Column) (fields : List (List ℕ)) → fields ≡ names_of columns → length fields ≡ length columns
 length-names columns fields e = ap length e ∙ length-map columns (λ (column : Column). column.name)
 
 -- a column without cells more
-pub empty-more : (columns : List Column) (made made2 : List ColumnCells) (i : ℕ) (column : Column) (new : ColumnCells) → i < length columns → column ≡ get_or columns i column
-    → kinds_in made ≡ kinds_of (take i columns) → AreLong 0 (cells_in made) → new ≡ record { kind = column.kind; cells = [] } → made2 ≡ made ++ new ∷ []
+pub empty-more : (columns : List Column) (made made2 : List ColumnCells) (i : ℕ) (column : Column) (new : ColumnCells) → i < length columns
+    → column ≡ get_or columns i column
+    → kinds_in made ≡ kinds_of (take i columns) → AreLong 0 (cells_in made) → new ≡ record { kind = column.kind; cells = [] }
+    → made2 ≡ made ++ new ∷ []
     → (kinds_in made2 ≡ kinds_of (take (i + 1) columns)) × AreLong 0 (cells_in made2)
 empty-more columns made made2 i column new within e kinds long is grown =
     let k : kinds_of (take (i + 1) columns) ≡ kinds_of (take i columns) ++ column.kind ∷ [] =
     ap kinds_of (take_more columns i column within) ∙ map-append (λ (c : Column). c.kind) (take i columns) (get_or columns i column ∷ [])
     ∙ ap (λ (c : Column). kinds_of (take i columns) ++ c.kind ∷ []) (sym e) in
     let m : kinds_in made2 ≡ kinds_in made ++ column.kind ∷ [] =
-    ap kinds_in grown ∙ map-append (λ (c : ColumnCells). c.kind) made (new ∷ []) ∙ ap (λ (c : ColumnCells). kinds_in made ++ c.kind ∷ []) is in
+    ap kinds_in grown ∙ map-append (λ (c : ColumnCells). c.kind) made (new ∷ [])
+    ∙ ap (λ (c : ColumnCells). kinds_in made ++ c.kind ∷ []) is in
     let n : cells_in made2 ≡ cells_in made ++ [] ∷ [] =
-    ap cells_in grown ∙ map-append (λ (c : ColumnCells). c.cells) made (new ∷ []) ∙ ap (λ (c : ColumnCells). cells_in made ++ c.cells ∷ []) is in
-    (m ∙ ap (λ (t : List Kind). t ++ column.kind ∷ []) kinds ∙ sym k, subst (AreLong 0) (sym n) (All-push (λ (t : List Cell). length t ≡ 0) (cells_in made) [] long refl))
+    ap cells_in grown ∙ map-append (λ (c : ColumnCells). c.cells) made (new ∷ [])
+    ∙ ap (λ (c : ColumnCells). cells_in made ++ c.cells ∷ []) is in (
+      m ∙ ap (λ (t : List Kind). t ++ column.kind ∷ []) kinds
+          ∙ sym k,
+      subst (AreLong 0) (sym n) (All-push (λ (t : List Cell). length t ≡ 0) (cells_in made) [] long refl),
+    )
 
-pub empty-all : (columns : List Column) (kinds : List Kind) (i : ℕ) → length columns ≤ i → kinds ≡ kinds_of (take i columns) → kinds ≡ kinds_of columns
+pub empty-all : (columns : List Column) (kinds : List Kind) (i : ℕ) → length columns ≤ i → kinds ≡ kinds_of (take i columns)
+    → kinds ≡ kinds_of columns
 empty-all columns kinds i past e = e ∙ ap kinds_of (take_all i columns past)
 
 length-zero : {X : Type 0} (xs : List X) → length xs ≡ 0 → xs ≡ []
@@ -236,25 +255,30 @@ pub bad-empty : (columns : List Column) (bytes : List ℕ) → records_of bytes 
 bad-empty columns bytes e body h = (let f : [] ≡ names_of columns ∷ body = sym e ∙ h in cc f)
 
 -- the first record isn't the names
-pub bad-header : (columns : List Column) (bytes : List ℕ) (fields : List (List ℕ)) (more : List (List (List ℕ))) → records_of bytes ≡ fields ∷ more
+pub bad-header : (columns : List Column) (bytes : List ℕ) (fields : List (List ℕ)) (more : List (List (List ℕ)))
+    → records_of bytes ≡ fields ∷ more
     → (fields ≡ names_of columns → ⊥) → IsFirstBad columns bytes 0
 bad-header columns bytes fields more e h body g =
     let f : fields ∷ more ≡ names_of columns ∷ body = sym e ∙ g in h (cc f)
 
 -- all records were read
 pub table-done : (columns : List Column) (bytes : List ℕ) (count : ℕ) (rows : List (List Cell)) (done left : List (List (List ℕ)))
-    → records_of bytes ≡ names_of columns ∷ (done ++ left) → left ≡ [] → length done ≡ count → count ≤ MOST_ROWS → EachReads (kinds_of columns) done rows
+    → records_of bytes ≡ names_of columns ∷ (done ++ left) → left ≡ [] → length done ≡ count → count ≤ MOST_ROWS
+    → EachReads (kinds_of columns) done rows
     → IsTable columns bytes rows
 table-done columns bytes count rows done left split e size few each = record {
   body = done;
-  header = split ∙ ap (λ (t : List (List (List ℕ))). names_of columns ∷ (done ++ t)) e ∙ ap (λ (t : List (List (List ℕ))). names_of columns ∷ t) (append-nil done);
+  header = split ∙ ap (λ (t : List (List (List ℕ))). names_of columns ∷ (done ++ t)) e
+      ∙ ap (λ (t : List (List (List ℕ))). names_of columns ∷ t) (append-nil done);
   few = omega arith;
   each = each;
 }
 
 -- the next record breaks a rule
-pub bad-row : (columns : List Column) (bytes : List ℕ) (count : ℕ) (rows : List (List Cell)) (done left : List (List (List ℕ))) (fields : List (List ℕ)) (more : List (List (List ℕ)))
-    → records_of bytes ≡ names_of columns ∷ (done ++ left) → left ≡ fields ∷ more → length done ≡ count → count ≤ MOST_ROWS → EachReads (kinds_of columns) done rows
+pub bad-row : (columns : List Column) (bytes : List ℕ) (count : ℕ) (rows : List (List Cell)) (done left : List (List (List ℕ)))
+    (fields : List (List ℕ)) (more : List (List (List ℕ)))
+    → records_of bytes ≡ names_of columns ∷ (done ++ left) → left ≡ fields ∷ more → length done ≡ count → count ≤ MOST_ROWS
+    → EachReads (kinds_of columns) done rows
     → (count < MOST_ROWS → cells_of (kinds_of columns) fields ≡ None) → IsFirstBad columns bytes (count + 1)
 bad-row columns bytes count rows done left fields more split e size few each bad =
     let here : IsFirstBadRow columns bytes (suc count) = record {
@@ -272,26 +296,33 @@ bad-row columns bytes count rows done left fields more split e size few each bad
     subst (IsFirstBad columns bytes) one here
 
 -- the next record is a row
-pub next-row : (columns : List Column) (bytes : List ℕ) (count : ℕ) (old new : List ColumnCells) (reader : Reader (Bor (List ℕ))) (done left : List (List (List ℕ))) (fields : List (List ℕ)) (more : List (List (List ℕ)))
-    → kinds_in old ≡ kinds_of columns → AreLong count (cells_in old) → records_of bytes ≡ names_of columns ∷ (done ++ left) → length done ≡ count
-    → EachReads (kinds_of columns) done (rows_from count (cells_in old)) → left ≡ fields ∷ more → HasLeft reader more → TakesRecord old new fields true
+pub next-row : (columns : List Column) (bytes : List ℕ) (count : ℕ) (old new : List ColumnCells) (reader : Reader (Bor (List ℕ)))
+    (done left : List (List (List ℕ))) (fields : List (List ℕ)) (more : List (List (List ℕ)))
+    → kinds_in old ≡ kinds_of columns → AreLong count (cells_in old) → records_of bytes ≡ names_of columns ∷ (done ++ left)
+    → length done ≡ count
+    → EachReads (kinds_of columns) done (rows_from count (cells_in old)) → left ≡ fields ∷ more → HasLeft reader more
+    → TakesRecord old new fields true
     → (kinds_in new ≡ kinds_of columns) × AreLong (count + 1) (cells_in new)
-    × ((done2 : List (List (List ℕ))) × (left2 : List (List (List ℕ))) × HasLeft reader left2 × (records_of bytes ≡ names_of columns ∷ (done2 ++ left2))
+    × ((done2 : List (List (List ℕ))) × (left2 : List (List (List ℕ))) × HasLeft reader left2
+    × (records_of bytes ≡ names_of columns ∷ (done2 ++ left2))
     × (length done2 ≡ count + 1) × EachReads (kinds_of columns) done2 (rows_from (count + 1) (cells_in new)))
 next-row columns bytes count old new reader done left fields more kinds long split size each e has took =
     let (row, reads, grown, same) = took in
-    let width : length row ≡ length (cells_in old) = cells-length (kinds_in old) fields row reads ∙ length-map old (λ (c : ColumnCells). c.kind) ∙ sym (length-map old (λ (c : ColumnCells). c.cells)) in
+    let width : length row ≡ length (cells_in old) = cells-length (kinds_in old) fields row reads
+    ∙ length-map old (λ (c : ColumnCells). c.kind) ∙ sym (length-map old (λ (c : ColumnCells). c.cells)) in
     let rows : rows_from (count + 1) (cells_in new) ≡ rows_from count (cells_in old) ++ row ∷ [] =
     ap (rows_from (count + 1)) grown ∙ rows-more count (cells_in old) row long width in
     let reads2 : cells_of (kinds_of columns) fields ≡ Some row = ap (λ (k : List Kind). cells_of k fields) (sym kinds) ∙ reads in
-    let each2 : EachReads (kinds_of columns) (done ++ fields ∷ []) (rows_from count (cells_in old) ++ row ∷ []) = each-more (kinds_of columns) done (rows_from count (cells_in old)) fields row each reads2 in (
+    let each2 : EachReads (kinds_of columns) (done ++ fields ∷ []) (rows_from count (cells_in old) ++ row ∷ []) = each-more
+    (kinds_of columns) done (rows_from count (cells_in old)) fields row each reads2 in (
       same ∙ kinds,
       subst (AreLong (count + 1)) (sym grown) (long-more count (cells_in old) row long width),
       (
         done ++ fields ∷ [],
         more,
         has,
-        split ∙ ap (λ (t : List (List (List ℕ))). names_of columns ∷ (done ++ t)) e ∙ ap (λ (t : List (List (List ℕ))). names_of columns ∷ t) (sym (append_assoc done (fields ∷ []) more)),
+        split ∙ ap (λ (t : List (List (List ℕ))). names_of columns ∷ (done ++ t)) e
+            ∙ ap (λ (t : List (List (List ℕ))). names_of columns ∷ t) (sym (append_assoc done (fields ∷ []) more)),
         length-append done (fields ∷ []) ∙ ap (λ (n : ℕ). n + 1) size,
         subst (EachReads (kinds_of columns) (done ++ fields ∷ [])) (sym rows) each2,
       ),
@@ -303,4 +334,5 @@ pub whole : (len : ℕ) (new old items : List ColumnCells) → old ≡ items →
 whole len new old items e size same =
     let past : length items ≤ length new = rw (← e) (omega arith) in
     let all : length new ≤ len = omega arith in
-    ap (λ (t : List ColumnCells). take len (new ++ t)) (drop_all (length new) items past) ∙ ap (take len) (append-nil new) ∙ take_all len new all
+    ap (λ (t : List ColumnCells). take len (new ++ t)) (drop_all (length new) items past) ∙ ap (take len) (append-nil new)
+    ∙ take_all len new all

@@ -15,7 +15,8 @@ use Rattle.row_text.specs.Fields.{cell_of, cells_of, int_of, joined}
 use Rattle.row_text.specs.Rows.{AreRows}
 use Rattle.row_text.specs.Table.{EachReads}
 
-number-typed : (number : Option ℤ) (cell : Cell) → ((n : ℤ) → number ≡ Some n → IsInt n) → option_map Int number ≡ Some cell → IsOfKind kind.Int cell
+number-typed : (number : Option ℤ) (cell : Cell) → ((n : ℤ) → number ≡ Some n → IsInt n) → option_map Int number ≡ Some cell
+    → IsOfKind kind.Int cell
 number-typed None cell h e = cc e
 number-typed (Some n) cell h e = (let same : Int n ≡ cell = cc in subst (IsOfKind kind.Int) same (h n refl))
 
@@ -52,10 +53,12 @@ row-typed [] [] row e = (let same : [] ≡ row = (let f : Some [] ≡ Some row =
 row-typed [] (field ∷ fields) row e = cc e
 row-typed (kind ∷ kinds) [] row e = cc e
 row-typed (kind ∷ kinds) (field ∷ fields) row e =
-    joined-typed kind kinds (cell_of kind field) (cells_of kinds fields) row (λ c f. cell-typed kind field c f) (λ cs f. row-typed kinds fields cs f) e
+    joined-typed kind kinds (cell_of kind field) (cells_of kinds fields) row (λ c f. cell-typed kind field c f)
+    (λ cs f. row-typed kinds fields cs f) e
 
 -- rows that were read
-pub each-typed : (kinds : List Kind) (records : List (List (List ℕ))) (rows : List (List Cell)) → EachReads kinds records rows → AreRows kinds rows
+pub each-typed : (kinds : List Kind) (records : List (List (List ℕ))) (rows : List (List Cell)) → EachReads kinds records rows
+    → AreRows kinds rows
 unfolding EachReads
 each-typed kinds [] [] each = All-nil _
 each-typed kinds [] (row ∷ rows) each = absurd each

@@ -36,7 +36,8 @@ records-init c =
         t.2,
         t.1 ∙ ap (λ (f : List (List ℕ)). f ∷ t.0) header,
         refl,
-        subst (EachReads (kinds_of c.args.columns.now) []) (sym (rows-none (cells_in c.in_ok-cells.cells.items) c.in_ok-cells.ensures.cells)) (each-none (kinds_of c.args.columns.now)),
+        subst (EachReads (kinds_of c.args.columns.now) [])
+            (sym (rows-none (cells_in c.in_ok-cells.cells.items) c.in_ok-cells.ensures.cells)) (each-none (kinds_of c.args.columns.now)),
       );
     }
 
@@ -44,7 +45,8 @@ pub from_columns-requires-clause-typed : goal.from_columns-requires-clause-typed
 from_columns-requires-clause-typed c =
     let (done, left, has, split, size, each) = c.records.invariant.read in
     let typed = each-typed (kinds_of c.args.columns.now) done (rows_from c.records.count (cells_in c.records.cells.items)) each in
-    subst (λ (kinds : List Kind). AreRows kinds (rows_from c.records.count (cells_in c.records.cells.items))) (sym c.records.invariant.kinds) typed
+    subst (λ (kinds : List Kind). AreRows kinds (rows_from c.records.count (cells_in c.records.cells.items)))
+    (sym c.records.invariant.kinds) typed
 
 pub returns-then-not-branch-2-clause-read : goal.returns-then-not-branch-2-clause-read
 returns-then-not-branch-2-clause-read c =
@@ -62,7 +64,8 @@ returns-then-row-gt-MOST_ROWS-clause-bad c = λ row e.
     let t = rw c.if-not-branch-2.false at (c.in_ok-take_next-2.ensures left has) in
     let same : c.records.count + 1 ≡ row = cc in
     subst (IsFirstBad c.args.columns.now c.args.bytes.now) same
-    (bad-row c.args.columns.now c.args.bytes.now c.records.count _ done left _ t.0 split t.1 size c.records.invariant.few each (λ below. absurd (omega (arith, c.if-row-gt-MOST_ROWS.true))))
+    (bad-row c.args.columns.now c.args.bytes.now c.records.count _ done left _ t.0 split t.1 size c.records.invariant.few each
+    (λ below. absurd (omega (arith, c.if-row-gt-MOST_ROWS.true))))
 
 pub returns-then-not-branch-3-clause-bad : goal.returns-then-not-branch-3-clause-bad
 returns-then-not-branch-3-clause-bad c = λ row e.
@@ -71,7 +74,8 @@ returns-then-not-branch-3-clause-bad c = λ row e.
     let none = rw (c.if-not-branch-3.true, c.deref_mut.ensures.value, c.records.invariant.kinds) at c.in_ok-push_record.ensures in
     let same : c.records.count + 1 ≡ row = cc in
     subst (IsFirstBad c.args.columns.now c.args.bytes.now) same
-    (bad-row c.args.columns.now c.args.bytes.now c.records.count _ done left _ t.0 split t.1 size c.records.invariant.few each (λ below. none))
+    (bad-row c.args.columns.now c.args.bytes.now c.records.count _ done left _ t.0 split t.1 size c.records.invariant.few each
+    (λ below. none))
 
 pub records-preserved : goal.records-preserved
 records-preserved c =
@@ -79,11 +83,15 @@ records-preserved c =
     let t = rw c.if-not-branch-2.false at (c.in_ok-take_next-2.ensures left has) in
     let took = rw c.if-not-branch-3.false at c.in_ok-push_record.ensures in
     let took2 : TakesRecord c.records.cells.items c.push_record.new.columns (fields_of c.take_next-in-records.new.fields) true =
-    subst (λ (o : List ColumnCells). TakesRecord o c.push_record.new.columns (fields_of c.take_next-in-records.new.fields) true) c.deref_mut.ensures.value took in
-    let next = next-row c.args.columns.now c.args.bytes.now c.records.count c.records.cells.items c.push_record.new.columns c.take_next-in-records.new.reader done left
+    subst (λ (o : List ColumnCells). TakesRecord o c.push_record.new.columns (fields_of c.take_next-in-records.new.fields) true)
+    c.deref_mut.ensures.value took in
+    let next = next-row c.args.columns.now c.args.bytes.now c.records.count c.records.cells.items c.push_record.new.columns
+    c.take_next-in-records.new.reader done left
     (fields_of c.take_next-in-records.new.fields) t.0 c.records.invariant.kinds c.records.invariant.long split size each t.1 t.2 took2 in
-    let w : take c.records.cells.len (c.push_record.new.columns ++ drop (length c.push_record.new.columns) c.records.cells.items) ≡ c.push_record.new.columns =
-    whole c.records.cells.len c.push_record.new.columns c.deref_mut.result.now c.records.cells.items c.deref_mut.ensures.value c.deref_mut.ensures.len c.push_record.auto.columns in
+    let w : take c.records.cells.len
+    (c.push_record.new.columns ++ drop (length c.push_record.new.columns) c.records.cells.items) ≡ c.push_record.new.columns =
+    whole c.records.cells.len c.push_record.new.columns c.deref_mut.result.now c.records.cells.items c.deref_mut.ensures.value
+    c.deref_mut.ensures.len c.push_record.auto.columns in
     record {
       few = omega (arith, c.if-row-gt-MOST_ROWS.false);
       kinds = ap kinds_in w ∙ next.0;
@@ -94,6 +102,7 @@ records-preserved c =
         next.2.2,
         next.2.3,
         next.2.4,
-        subst (λ (o : List ColumnCells). EachReads (kinds_of c.args.columns.now) next.2.0 (rows_from (c.records.count + 1) (cells_in o))) (sym w) next.2.5,
+        subst (λ (o : List ColumnCells). EachReads (kinds_of c.args.columns.now) next.2.0 (rows_from (c.records.count + 1) (cells_in o)))
+            (sym w) next.2.5,
       );
     }

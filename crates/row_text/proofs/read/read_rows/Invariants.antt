@@ -11,7 +11,8 @@ invariant-records l = record {
   few : l.count ≤ MOST_ROWS;
   kinds : kinds_in l.cells.items ≡ kinds_of l.columns;
   long : AreLong l.count (cells_in l.cells.items);
-  read : (done : List (List (List ℕ))) × (left : List (List (List ℕ))) × HasLeft l.reader left × (records_of l.fn.bytes ≡ names_of l.columns ∷ (done ++ left))
+  read : (done : List (List (List ℕ))) × (left : List (List (List ℕ))) × HasLeft l.reader left
+      × (records_of l.fn.bytes ≡ names_of l.columns ∷ (done ++ left))
       × (length done ≡ l.count) × EachReads (kinds_of l.columns) done (rows_from l.count (cells_in l.cells.items));
 }
 

@@ -8,4 +8,6 @@ new-requires c =
     record { order = omega arith; within = omega (arith, size) }
 
 pub returns : goal.returns
-returns c = c.new.ensures ∙ part-all c.args.self.now c.self.inside.count (stored-length c.args.self.now c.self.inside.count c.self.inside.columns.items (sym c.self.view_is) c.self.invariant)
+returns c = c.new.ensures
+    ∙ part-all c.args.self.now c.self.inside.count
+    (stored-length c.args.self.now c.self.inside.count c.self.inside.columns.items (sym c.self.view_is) c.self.invariant)

@@ -5,21 +5,30 @@ use Rattle.row_text.proofs.rows_slice.RowsSlice.cells_of.Goals as goal
 
 pub overflow_add-place : goal.overflow_add-place
 overflow_add-place c =
-    let within : c.args.row < length (part_of c.self.inside.from (c.self.inside.to - c.self.inside.from) c.self.inside.rows.now).rows = subst (λ (t : Table). c.args.row < length t.rows) (sym c.self.view_is) c.requires in
-    let row = part-row c.self.inside.rows.now c.self.inside.from (c.self.inside.to - c.self.inside.from) c.args.row (range-all _ _ _ c.self.invariant) within in
+    let within : c.args.row < length
+    (part_of c.self.inside.from (c.self.inside.to - c.self.inside.from) c.self.inside.rows.now).rows = subst
+    (λ (t : Table). c.args.row < length t.rows) (sym c.self.view_is) c.requires in
+    let row = part-row c.self.inside.rows.now c.self.inside.from (c.self.inside.to - c.self.inside.from) c.args.row
+    (range-all _ _ _ c.self.invariant) within in
     omega (arith, row, c.self.invariant.order, c.self.ranges.1.1.0.1)
 
 pub cell-requires : goal.cell-requires
 cell-requires c =
     let (count, same, stored) = c.columns-columns.ensures in
-    let within : c.args.row < length (part_of c.self.inside.from (c.self.inside.to - c.self.inside.from) c.self.inside.rows.now).rows = subst (λ (t : Table). c.args.row < length t.rows) (sym c.self.view_is) c.requires in
-    place-within c.self.inside.rows.now count c.self.inside.from (c.self.inside.to - c.self.inside.from) c.args.row c.columns.column-index c.columns-columns.result.now c.column-item.result
+    let within : c.args.row < length
+    (part_of c.self.inside.from (c.self.inside.to - c.self.inside.from) c.self.inside.rows.now).rows = subst
+    (λ (t : Table). c.args.row < length t.rows) (sym c.self.view_is) c.requires in
+    place-within c.self.inside.rows.now count c.self.inside.from (c.self.inside.to - c.self.inside.from) c.args.row c.columns.column-index
+    c.columns-columns.result.now c.column-item.result
     same stored (range-all _ _ _ c.self.invariant) within c.columns-test.true c.column-item.is
 
 pub returns : goal.returns
 returns c =
     let (count, same, stored) = c.columns-columns.ensures in
-    let within : c.args.row < length (part_of c.self.inside.from (c.self.inside.to - c.self.inside.from) c.self.inside.rows.now).rows = subst (λ (t : Table). c.args.row < length t.rows) (sym c.self.view_is) c.requires in
-    let read = row-cells c.self.inside.rows.now count c.self.inside.from (c.self.inside.to - c.self.inside.from) c.args.row c.columns.column-index c.columns-columns.result.now c.columns.cells.items
+    let within : c.args.row < length
+    (part_of c.self.inside.from (c.self.inside.to - c.self.inside.from) c.self.inside.rows.now).rows = subst
+    (λ (t : Table). c.args.row < length t.rows) (sym c.self.view_is) c.requires in
+    let read = row-cells c.self.inside.rows.now count c.self.inside.from (c.self.inside.to - c.self.inside.from) c.args.row
+    c.columns.column-index c.columns-columns.result.now c.columns.cells.items
     same stored (range-all _ _ _ c.self.invariant) within c.columns-test.false c.columns.invariant in
     subst (λ (t : Table). c.columns.cells.items ≡ get_or t.rows c.args.row []) c.self.view_is read
