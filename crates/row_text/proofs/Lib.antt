@@ -3,6 +3,7 @@
 -- that callers build), and TypedLemmas (cells of their kind).
 mod NumberLemmas
 mod RecordLemmas
+mod LineLemmas
 pub mod StoredLemmas
 pub mod TableLemmas
 pub mod TypedLemmas

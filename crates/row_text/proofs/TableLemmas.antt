@@ -1,5 +1,5 @@
 -- Columns as rows.
-use Rattle.std.proofs.Common.{Bor, ◌≡◌, ◌≤◌, ◌<◌, ◌+◌, ℕ, zero, suc, List, [], ◌∷◌, ◌++◌, length, take, drop, get_or, true, Option, Some}
+use Rattle.std.proofs.Common.{◌≡◌, ◌≤◌, ◌<◌, ◌+◌, ℕ, zero, suc, List, [], ◌∷◌, ◌++◌, length, take, drop, get_or, true, Option, Some}
 use Rattle.std.proofs.Common.{None, refl, sym, ap, ◌∙◌, arith, subst, inl, inr, append_assoc, length-append}
 use Rattle.std.proofs.Math.ListN.{set}
 use Rattle.std.proofs.lemmas.Grind.{replicate_next}
@@ -15,8 +15,6 @@ use Rattle.query_model.specs.declared.kind.Kind.{Kind}
 use Rattle.query_model.specs.declared.bounds.TheConstants.{MOST_ROWS}
 use Rattle.row_text.specs.Fields.{cell_of, cells_of, joined}
 use Rattle.row_text.specs.Stored.{ColumnCells}
-use Rattle.csv.specs.declared.reader.Reader.{Reader}
-use Rattle.row_text.specs.Left.{HasLeft}
 use Rattle.row_text.specs.Table.{EachReads, IsFirstBad, IsFirstBadRow, IsTable, records_of, kinds_of, names_of}
 use Rattle.row_text.specs.Rows.{AreLong, TakesRecord, Took, beside, cells_in, kinds_in, rows_from, with_row}
 
@@ -295,18 +293,18 @@ bad-row columns bytes count rows done left fields more split e size few each bad
     let one : suc count ≡ count + 1 = omega arith in
     subst (IsFirstBad columns bytes) one here
 
--- the next record is a row
-pub next-row : (columns : List Column) (bytes : List ℕ) (count : ℕ) (old new : List ColumnCells) (reader : Reader (Bor (List ℕ)))
+-- the next record is a row, and what holds of the records behind it still does
+pub next-row : (columns : List Column) (bytes : List ℕ) (count : ℕ) (old new : List ColumnCells) (Holds : List (List (List ℕ)) → Type 0)
     (done left : List (List (List ℕ))) (fields : List (List ℕ)) (more : List (List (List ℕ)))
     → kinds_in old ≡ kinds_of columns → AreLong count (cells_in old) → records_of bytes ≡ names_of columns ∷ (done ++ left)
     → length done ≡ count
-    → EachReads (kinds_of columns) done (rows_from count (cells_in old)) → left ≡ fields ∷ more → HasLeft reader more
+    → EachReads (kinds_of columns) done (rows_from count (cells_in old)) → left ≡ fields ∷ more → Holds more
     → TakesRecord old new fields true
     → (kinds_in new ≡ kinds_of columns) × AreLong (count + 1) (cells_in new)
-    × ((done2 : List (List (List ℕ))) × (left2 : List (List (List ℕ))) × HasLeft reader left2
+    × ((done2 : List (List (List ℕ))) × (left2 : List (List (List ℕ))) × Holds left2
     × (records_of bytes ≡ names_of columns ∷ (done2 ++ left2))
     × (length done2 ≡ count + 1) × EachReads (kinds_of columns) done2 (rows_from (count + 1) (cells_in new)))
-next-row columns bytes count old new reader done left fields more kinds long split size each e has took =
+next-row columns bytes count old new Holds done left fields more kinds long split size each e has took =
     let (row, reads, grown, same) = took in
     let width : length row ≡ length (cells_in old) = cells-length (kinds_in old) fields row reads
     ∙ length-map old (λ (c : ColumnCells). c.kind) ∙ sym (length-map old (λ (c : ColumnCells). c.cells)) in

@@ -2,6 +2,7 @@
 pub mod Fields
 pub mod Stored
 pub mod Left
+pub mod Lines
 pub mod Table
 pub mod Rows
 pub mod Slices

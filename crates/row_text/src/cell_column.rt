@@ -94,6 +94,7 @@ impl CellColumn {
     }
 
     /// Puts the cell that a field is at the end, where it is one, and says whether it is.
+    #[inline(always)]
     pub(crate) fn push_field(&mut self, field: &[u8]) -> Result<bool, AllocError>
         ensures kind { self.new.kind ≡ self.old.kind }
         ensures cells { IfOk result (TakesField self.old.kind field.now self.old.cells self.new.cells) }

@@ -5,6 +5,7 @@ mod answer;
 mod cell_column;
 mod column_slice;
 mod laws;
+mod lines;
 mod number;
 mod read;
 mod records;

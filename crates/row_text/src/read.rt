@@ -5,6 +5,7 @@ ghost use Rattle.row_text.specs.Table.{IsFirstBad, IsTable, kinds_of, names_of};
 ghost use Rattle.row_text.specs.Rows.{AreLong, TakesRecord, cells_in, kinds_in};
 
 use crate::cell_column::CellColumn;
+use crate::lines::read_lines;
 use crate::records::{open, take_next};
 use crate::refused::RowsRefused;
 use crate::rows::Rows;
@@ -13,7 +14,8 @@ use query_model::{Column, MOST_ROWS};
 use std::alloc::{AllocError, Global};
 
 /// Reads a table: its first record is the columns' names, and the others are rows, each cell by its column's kind. No memory is
-/// taken for a row or a cell by itself. A table with a column of sums has no rows to read.
+/// taken for a row or a cell by itself. A table with a column of sums has no rows to read. Where a field has a quote, a record a
+/// carriage return or a line is empty, or where a row is bad, the rows before it are read twice.
 pub fn read_rows(alloc: Global, columns: &[Column], bytes: &[u8]) -> Result<Rows, RowsRefused>
     ensures read { IfOk result (λ table. IsTable columns.now bytes.now table.rows) }
     ensures kinds { IfOk result (λ table. table.kinds ≡ kinds_of columns.now) }
@@ -28,6 +30,9 @@ pub fn read_rows(alloc: Global, columns: &[Column], bytes: &[u8]) -> Result<Rows
     }
     if !is_header(columns, &fields) {
         return Err(RowsRefused::Bad { row: 0 });
+    }
+    if let Some(rows) = read_lines(alloc, columns, bytes)? {
+        return Ok(rows);
     }
     let mut cells = empty_columns(alloc, columns)?;
     let mut count = 0usize;
@@ -64,8 +69,11 @@ fn is_header(columns: &[Column], fields: &ByteRecord) -> bool
     true
 }
 
-// A column without cells for each column of a table.
-fn empty_columns(alloc: Global, columns: &[Column]) -> Result<Vec<CellColumn>, AllocError>
+/// A column without cells for each column of a table.
+pub(crate) fn empty_columns(
+    alloc: Global,
+    columns: &[Column],
+) -> Result<Vec<CellColumn>, AllocError>
     ensures kinds { IfOk result (λ made. kinds_in made.items ≡ kinds_of columns.now) }
     ensures cells { IfOk result (λ made. AreLong 0 (cells_in made.items)) }
 {

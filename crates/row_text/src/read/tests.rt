@@ -116,9 +116,12 @@ fn the_first_bad_row_is_named(rt: HostRuntime) -> Result<(), Fail> {
 #[test]
 fn records_and_numbers_are_read_in_each_form(rt: HostRuntime) -> Result<(), Fail> {
     let a = rt.alloc();
-    let tables: [(&[u8], usize); 8] = [
+    let tables: [(&[u8], usize); 10] = [
         (b"city,mm\n", 0),
         (b"city,mm", 0),
+        // No last line feed, and a quote behind rows without one.
+        (b"city,mm\noslo,3\nbergen,4", 2),
+        (b"city,mm\noslo,3\n\"bergen\",4\n", 2),
         // A byte order mark, a carriage return before each line feed, empty lines, no last line feed.
         (b"\xef\xbb\xbfcity,mm\r\noslo,3\r\n\r\n\nbergen,4", 2),
         // A quote that is never closed ends with the file.

@@ -1,6 +1,7 @@
 use Rattle.std.proofs.Common.{true, ◌≡◌, ◌+◌, ◌∙◌, ◌++◌, List, ℕ, [], ◌∷◌, refl, sym, ap, subst, arith, take, drop, length}
 use Rattle.std.proofs.lemmas.Bool.{false≢true}
 use Rattle.csv.specs.Records.{fields_of}
+use Rattle.row_text.specs.Left.{HasLeft}
 use Rattle.row_text.specs.Stored.{ColumnCells}
 use Rattle.row_text.specs.Table.{EachReads, IsFirstBad, IsTable, kinds_of}
 use Rattle.row_text.specs.Rows.{Table, AreLong, AreRows, TakesRecord, cells_in, kinds_in, rows_from}
@@ -21,6 +22,12 @@ returns-then-not-is_header-clause-bad c = λ row e.
     let same : 0 ≡ row = cc in
     subst (IsFirstBad c.args.columns.now c.args.bytes.now) same
     (bad-header c.args.columns.now c.args.bytes.now _ t.0 t.1 (λ h. false≢true (sym c.if-not-is_header.true ∙ c.is_header.ensures.1 h)))
+
+pub read_lines-requires : goal.read_lines-requires
+read_lines-requires c =
+    let t = rw c.if-not-branch.false at (c.in_ok-take_next.ensures _ c.open-reader.ensures) in
+    let header = c.is_header.ensures.0 c.if-not-is_header.false in
+    record { header = (t.0, t.1 ∙ ap (λ (f : List (List ℕ)). f ∷ t.0) header) }
 
 pub records-init : goal.records-init
 records-init c =
@@ -86,7 +93,7 @@ records-preserved c =
     subst (λ (o : List ColumnCells). TakesRecord o c.push_record.new.columns (fields_of c.take_next-in-records.new.fields) true)
     c.deref_mut.ensures.value took in
     let next = next-row c.args.columns.now c.args.bytes.now c.records.count c.records.cells.items c.push_record.new.columns
-    c.take_next-in-records.new.reader done left
+    (HasLeft c.take_next-in-records.new.reader) done left
     (fields_of c.take_next-in-records.new.fields) t.0 c.records.invariant.kinds c.records.invariant.long split size each t.1 t.2 took2 in
     let w : take c.records.cells.len
     (c.push_record.new.columns ++ drop (length c.push_record.new.columns) c.records.cells.items) ≡ c.push_record.new.columns =
