@@ -3,7 +3,7 @@ use Rattle.std.specs.Prelude.{ℤ, pos, negsuc, codes}
 use Rattle.std.proofs.lemmas.List.Elements.{All-cons, All-nil}
 use Rattle.std.proofs.lemmas.Str.{IsUtf8-from_is_utf8}
 use Rattle.csv.specs.Records.{AllText, Rising, cut_from, last_end}
-use Rattle.query_model.specs.Cells.{IsInt, IsOfKind, IsSum}
+use Rattle.query_model.specs.Cells.{IsInt, IsSum}
 use Rattle.query_model.specs.declared.cell.Cell.TheVariants as cell
 use Rattle.query_model.specs.declared.kind.Kind.TheVariants as kind
 use Rattle.row_text.specs.Rows.{AreLong, AreRows, cells_in, kinds_in, rows_from}
