@@ -177,7 +177,7 @@ text_between (cell ∷ cells) (suc i) within =
     ∙ text_between cells i (omega arith)
 
 -- an offset is read back
-offset_at : (cells : List Cell) → texts_length cells ≤ MOST_TEXT_BYTES → (j : ℕ) → j ≤ length cells
+pub offset_at : (cells : List Cell) → texts_length cells ≤ MOST_TEXT_BYTES → (j : ℕ) → j ≤ length cells
     → number_at w32 (offset_bytes cells) j ≡ texts_length (take j cells)
 offset_at cells short j within =
     let bytes_of : ℕ → List ℕ = λ i. to_le_bytes w32 (texts_length (take i cells)) in

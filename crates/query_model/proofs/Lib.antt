@@ -1,2 +1,2 @@
--- The lemmas of this crate, those first that others stand on.
-mod BytesLemmas
+-- The lemmas of this crate. A crate above reads columns back by them: `offset_at`, `read_back` and `lengths_of`.
+pub mod BytesLemmas
