@@ -9,6 +9,7 @@ ghost use Rattle.row_text.specs.Table.{IsTable, kinds_of, names_of, records_of};
 use crate::cell_column::CellColumn;
 use crate::read::empty_columns;
 use crate::rows::Rows;
+use memchr::memchr2;
 use query_model::{Column, MOST_ROWS};
 use std::alloc::{AllocError, Global};
 
@@ -45,7 +46,7 @@ fn cut_record(text: &[u8], ends: &mut Vec<usize>) -> Result<Option<usize>, Alloc
 }
 
 /// Reads a table that has no quote, no carriage return and no empty line. None where it has one, or may begin with a byte order mark, or
-/// has a bad row.
+/// has a bad row. Quotes and carriage returns are looked for before anything is read.
 pub(crate) fn read_lines(
     alloc: Global,
     columns: &[Column],
@@ -55,6 +56,9 @@ pub(crate) fn read_lines(
     ensures read { IfOk result (λ found. IfSome found (λ table. IsTable columns.now bytes.now table.rows)) }
     ensures kinds { IfOk result (λ found. IfSome found (λ table. table.kinds ≡ kinds_of columns.now)) }
 {
+    if memchr2(b'"', b'\r', bytes).is_some() {
+        return Ok(None);
+    }
     if may_be_marked(bytes) {
         return Ok(None);
     }

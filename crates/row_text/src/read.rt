@@ -14,8 +14,8 @@ use query_model::{Column, MOST_ROWS};
 use std::alloc::{AllocError, Global};
 
 /// Reads a table: its first record is the columns' names, and the others are rows, each cell by its column's kind. No memory is
-/// taken for a row or a cell by itself. A table with a column of sums has no rows to read. Where a field has a quote, a record a
-/// carriage return or a line is empty, or where a row is bad, the rows before it are read twice.
+/// taken for a row or a cell by itself. A table with a column of sums has no rows to read. Where a line is empty or a row is
+/// bad in a table without quotes and carriage returns, the rows before it are read twice.
 pub fn read_rows(alloc: Global, columns: &[Column], bytes: &[u8]) -> Result<Rows, RowsRefused>
     ensures read { IfOk result (λ table. IsTable columns.now bytes.now table.rows) }
     ensures kinds { IfOk result (λ table. table.kinds ≡ kinds_of columns.now) }

@@ -50,6 +50,14 @@ impl<'a> RowsSlice<'a> {
         self.to - self.from
     }
 
+    /// How many columns there are. Takes no memory.
+    pub fn width(&self) -> usize
+        ensures value { result ≡ length self.now.kinds }
+    {
+        let _end = self.to;
+        self.rows.columns().len()
+    }
+
     /// A copy of a row, by itself.
     pub fn row(&self, alloc: Global, row: usize) -> Result<Row, NoMemory>
         requires { row < length self.now.rows }
