@@ -1,5 +1,7 @@
 -- Additions to held words stay small.
-use Rattle.std.proofs.Common.{suc, ◌≡◌, ℕ, ◌+◌, ◌*◌, ◌%◌, ◌^◌, ◌<◌, ◌≤◌, List, [], ◌∷◌, ◌++◌, length, set, slice_index, refl, sym, ap, subst, arith, sum_by, sum, All, ⊎_elim, mod-eq_of_lt, mul-le-mul_right, get_or-set_same, get_or-set_other, eqb, Bool, true, false, cond}
+use Rattle.std.proofs.Common.{suc, ◌≡◌, ℕ, ◌+◌, ◌*◌, ◌%◌, ◌^◌, ◌<◌, ◌≤◌, List, [], ◌∷◌, ◌++◌, length, set, slice_index, refl, sym, ap}
+use Rattle.std.proofs.Common.{subst, arith, sum_by, sum, All, ⊎_elim, mod-eq_of_lt, mul-le-mul_right, get_or-set_same, get_or-set_other}
+use Rattle.std.proofs.Common.{eqb, Bool, true, false, cond}
 use mathlib.Core.Option as option
 use mathlib.Core.Option.{some}
 use lib.ListN.{get_elem?}

@@ -1,5 +1,6 @@
 -- One level more of a request's way up.
-use Rattle.std.proofs.Common.{zero, suc, ◌≡◌, ℕ, ◌-◌, ◌<◌, List, [], ◌∷◌, ◌++◌, Bool, true, false, cond, Option, Some, None, length, refl, sym, ap, ◌∙◌, subst, arith}
+use Rattle.std.proofs.Common.{zero, suc, ◌≡◌, ℕ, ◌-◌, ◌<◌, List, [], ◌∷◌, ◌++◌, Bool, true, false, cond, Option, Some, None, length, refl}
+use Rattle.std.proofs.Common.{sym, ap, ◌∙◌, subst, arith}
 use Rattle.mem_num.specs.declared.full.Full.{Full}
 use Rattle.acct_core.specs.Claims.{Claim, claim_at}
 use Rattle.acct_core.specs.declared.level_step.LevelStep.{LevelStep}
@@ -15,7 +16,8 @@ use Rattle.acct_words.specs.Rows.{node, parent_of, HasParentsBefore}
 use Rattle.acct_words.specs.Moves.{charged_as, rising, reading, first_chunk}
 use Rattle.acct_words.specs.Plays.{entry, stepping}
 use Rattle.acct_words.specs.Calls.{GoesUp, HasRoom, HasEmptyChunk}
-use Rattle.acct_words.specs.Climbs.{HasClimbed, HasBegun, HasRisen, IsCharged, IsForced, IsGoing, GoesOn, HasBegunForce, IsInTree, level_step, next_asked, full_at, first_of, refusal_of}
+use Rattle.acct_words.specs.Climbs.{HasClimbed, HasBegun, HasRisen, IsCharged, IsForced, IsGoing, GoesOn, HasBegunForce, IsInTree}
+use Rattle.acct_words.specs.Climbs.{level_step, next_asked, full_at, first_of, refusal_of}
 use Rattle.acct_words.specs.Climbs.Climbs.{begins, adds}
 use Rattle.acct_words.specs.Climbs.Shows.{none, more}
 
@@ -128,39 +130,7 @@ next_in_tree tree m amount found parents there = go (next_asked tree m amount fo
     go None e = tt
     go (Some p) e = let l = next_below tree m amount found parents p e in omega arith
 
--- a charge that has gone up one level more, as it is seen from the beginning
-pub charge_goes_on : (at size : ℕ) (v w x : View) (steps : List LevelStep) (m amount found : ℕ) →
-    IsCharged at size v w steps (Some (m, amount)) → HasRisen m amount w x found
-    → IsCharged at size v x (steps ++ level_step v.start.tree m amount found ∷ []) (next_asked v.start.tree m amount found)
-charge_goes_on at size v w x steps m amount found c h = record {
-  chunk = c.chunk;
-  others = c.others;
-  is = c.is;
-  climbed = climb_goes_on at size false (record { number = c.chunk.number; size = size; charges = [] }) [] c.others
-      (v.own.bytes - size) v.own.turns v w x steps m amount found c.climbed h;
-}
-
--- the chunk in hand of a charge that goes on has this amount to add
-pub charge_goes_up : (at size : ℕ) (v w : View) (steps : List LevelStep) (m amount : ℕ) → IsCharged at size v w steps (Some (m, amount)) →
-    GoesUp m amount w
-charge_goes_up at size v w steps m amount c = record {
-  chunk = charged_as (record { number = c.chunk.number; size = size; charges = [] }) (claim_at at (Up size m amount false steps) ∷ []);
-  others = c.others;
-  is = ap (λ (y : View). y.own.chunks) c.climbed.view;
-  at = at;
-  size = size;
-  forced = false;
-  steps = steps;
-  rest = [];
-  up = refl;
-}
-
--- it knows the same tree
-pub charge_start : (at size : ℕ) (v w : View) (steps : List LevelStep) (next : Option (ℕ × ℕ)) → IsCharged at size v w steps next →
-    w.start ≡ v.start
-charge_start at size v w steps next c = ap (λ (y : View). y.start) c.climbed.view
-
--- what the loop knows after the first level
+-- a charge has begun, and this is the refusal so far
 pub charge_begins : (tree : List Fixed) (at size found : ℕ) (v w : View) (full : Option Full) (next : Option (ℕ × ℕ)) →
     v.start.tree ≡ tree → HasEmptyChunk v → HasBegun at size v w found
     → full ≡ refusal_of at (level_step tree at size found ∷ []) → next ≡ next_asked tree at size found →
@@ -177,19 +147,31 @@ charge_begins tree at size found v w full next t c h f n = (
   f,
 )
 
--- and after one level more
-pub charge_more : (tree : List Fixed) (at size m amount found : ℕ) (v w x : View) (full refused all : Option Full)
-    (next : Option (ℕ × ℕ)) → v.start.tree ≡ tree → HasRisen m amount w x found
-    → refused ≡ refusal_of at (level_step tree m amount found ∷ []) → next ≡ next_asked tree m amount found → all ≡ first_of full refused
-    → (steps : List LevelStep) × IsCharged at size v w steps (Some (m, amount)) × (full ≡ refusal_of at steps)
-    → (steps : List LevelStep) × IsCharged at size v x steps next × (all ≡ refusal_of at steps)
-charge_more tree at size m amount found v w x full refused all next t h r n a (steps, c, f) = (
-  steps ++ level_step tree m amount found ∷ [],
-  subst (IsCharged at size v x (steps ++ level_step tree m amount found ∷ [])) (sym n)
-      (subst (λ (l : List Fixed). IsCharged at size v x (steps ++ level_step l m amount found ∷ []) (next_asked l m amount found)) t
-      (charge_goes_on at size v w x steps m amount found c h)),
-  a ∙ (λ j. first_of (f j) (r j)) ∙ sym (refusal_more at steps (level_step tree m amount found)),
-)
+-- a charge on its way
+pub charge_going : (at size : ℕ) (v w : View) (steps : List LevelStep) (full : Option Full) (next : Option (ℕ × ℕ)) →
+    IsCharged at size v w steps next → full ≡ refusal_of at steps → IsGoing at w full next
+charge_going at size v w steps full next c f = record {
+  size = size;
+  forced = false;
+  chunk = record { number = c.chunk.number; size = size; charges = [] };
+  rest = [];
+  others = c.others;
+  bytes = v.own.bytes - size;
+  turns = v.own.turns;
+  before = v;
+  steps = steps;
+  climbed = c.climbed;
+  refusal = f;
+}
+
+-- and all the way up
+pub charge_ends : (at size : ℕ) (v w x : View) (full all : Option Full) (next : Option (ℕ × ℕ)) →
+    (steps : List LevelStep) × IsCharged at size v w steps next × (full ≡ refusal_of at steps) → GoesOn at w x full all next None
+    → (steps : List LevelStep) × IsCharged at size v x steps None × (all ≡ refusal_of at steps)
+charge_ends at size v w x full all next (steps, c, f) g =
+    let q = g size false (record { number = c.chunk.number; size = size; charges = [] }) [] c.others (v.own.bytes - size) v.own.turns v
+    steps c.climbed f in
+    (q.0, record { chunk = c.chunk; others = c.others; is = c.is; climbed = q.1 }, q.2)
 
 -- a way up goes on by one level
 pub level_goes_on : (tree : List Fixed) (at m amount found : ℕ) (w x : View) (full refused all : Option Full) (next : Option (ℕ × ℕ)) →

@@ -1,5 +1,6 @@
 -- What the steps of a release owe the rule.
-use Rattle.std.proofs.Common.{suc, ◌≡◌, ℕ, ◌+◌, ◌-◌, ◌%◌, ◌^◌, ◌<◌, ◌≤◌, Bool, true, false, cond, ◌==◌, List, [], ◌∷◌, ◌++◌, length, set, slice_index, refl, sym, ap, ◌∙◌, subst, arith, sum_by, All, get_or-set_other, Option, Some, None}
+use Rattle.std.proofs.Common.{suc, ◌≡◌, ℕ, ◌+◌, ◌-◌, ◌%◌, ◌^◌, ◌<◌, ◌≤◌, Bool, true, false, cond, ◌==◌, List, [], ◌∷◌, ◌++◌, length, set}
+use Rattle.std.proofs.Common.{slice_index, refl, sym, ap, ◌∙◌, subst, arith, sum_by, All, get_or-set_other, Option, Some, None}
 use mathlib.Core.Option as option
 use mathlib.Core.Option.{some, none}
 use lib.ListN.{get_elem?}
@@ -20,7 +21,8 @@ use Rattle.acct_words.specs.declared.rule.Said.{Said}
 use Rattle.acct_words.specs.Places.{number_word, held_word, limit_word}
 use Rattle.acct_words.specs.Bodies.{of_view, made, numbered, chunk_sizes, bytes_left, turns_left}
 use Rattle.acct_words.specs.Rows.{node, charges_of, rows_of}
-use Rattle.acct_words.specs.Moves.{found_row, fallen, turned, behind, to_front, charged_as, first_chunk, falling_charges, turning_charges, falling, turning, other_chunks, parting}
+use Rattle.acct_words.specs.Moves.{found_row, fallen, turned, behind, to_front, charged_as, first_chunk, falling_charges, turning_charges}
+use Rattle.acct_words.specs.Moves.{falling, turning, other_chunks, parting}
 use Rattle.acct_words.specs.Rule.{IsGoodChunk, IsGoodView, IsSoundTable}
 use Rattle.acct_words.specs.Plays.{entry, stepping, Falls, Turns, Forgets}
 use Rattle.acct_core.specs.FixedTrees.{CanTurnRound, settled}
@@ -165,7 +167,8 @@ module _ (start : Start) (s : State Said View) (homes : List (option.Option Said
               record {
                 own_steps = steps_more k.history e v.own old.0 refl;
                 observed = (good_longer k.history e v.own old.0).observed;
-                chunks = All-cons IsGoodChunk k₁ chunks (good_before (All-head IsGoodChunk k₀ chunks its)) (All-tail IsGoodChunk k₀ chunks its);
+                chunks = All-cons IsGoodChunk k₁ chunks (good_before (All-head IsGoodChunk k₀ chunks its))
+                    (All-tail IsGoodChunk k₀ chunks its);
               },
               good_longer k.history e v.offer old.1,
             ));

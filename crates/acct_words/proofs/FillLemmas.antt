@@ -1,5 +1,7 @@
 -- The words of the opening, filled from the last allocator to the first.
-use Rattle.std.proofs.Common.{zero, suc, ◌≡◌, ℕ, ◌+◌, ◌*◌, ◌^◌, ◌<◌, ◌≤◌, ◌≢◌, Bool, true, false, cond, Option, None, List, ◌∷◌, length, set, slice_index, drop, take, Some, sum, sum_by, refl, sym, ap, ◌∙◌, subst, arith, ⊎_elim, max, length-set, get_or-set_same, get_or-set_other, replicate, eq-eqb, ne_eqb, mul-le-mul_right}
+use Rattle.std.proofs.Common.{zero, suc, ◌≡◌, ℕ, ◌+◌, ◌*◌, ◌^◌, ◌<◌, ◌≤◌, ◌≢◌, Bool, true, false, cond, Option, None, List, ◌∷◌, length}
+use Rattle.std.proofs.Common.{set, slice_index, drop, take, Some, sum, sum_by, refl, sym, ap, ◌∙◌, subst, arith, ⊎_elim, max, length-set}
+use Rattle.std.proofs.Common.{get_or-set_same, get_or-set_other, replicate, eq-eqb, ne_eqb, mul-le-mul_right}
 use Rattle.std.proofs.Math.Seq.{drop-cons, drop-length}
 use Rattle.std.proofs.lemmas.Bool.{cases_eq, cases_lt}
 use Rattle.std.proofs.lemmas.List.{take-append-drop, get_or-replicate, get_or_past, length-replicate}
@@ -13,7 +15,7 @@ use Rattle.acct_words.specs.declared.fixed.Fixed.{Fixed}
 use Rattle.acct_words.specs.Places.{number_word, held_word, limit_word}
 use Rattle.acct_words.specs.Rows.{no_node, node, parent_of, row_of, rows_of, HasParentsBefore}
 use Rattle.acct_words.specs.Rule.{reservations}
-use Rattle.acct_words.specs.Openings.{IsWithinLimit, ComeAfterParents, IsFixedTree, AreOpeningWords, held_below, AreFilledFrom}
+use Rattle.acct_words.specs.Openings.{ReservesWithinLimit, ComeAfterParents, IsFixedTree, AreOpeningWords, held_below, AreFilledFrom}
 use Rattle.acct_words.proofs.RowLemmas.{rows_of-before}
 
 -- the number that there is, or 0
@@ -90,7 +92,7 @@ pub reservations_small : (tree : List Fixed) → IsFixedTree tree → sum (reser
 reservations_small tree t =
     let a = sum-map (λ (f : Fixed). f.reservation) tree in
     let b = sum_by-le (λ (f : Fixed). f.reservation) (2 ^ 40) tree
-    (All-weaker IsWithinLimit (λ (f : Fixed). f.reservation ≤ 2 ^ 40) (λ f w. w.1) tree t.within) in
+    (All-weaker ReservesWithinLimit (λ (f : Fixed). f.reservation ≤ 2 ^ 40) (λ f w. w.1) tree t.within) in
     let c = mul-le-mul_right (2 ^ 40) t.few in omega arith
 
 -- what a row counts for at the parent of a number, and elsewhere

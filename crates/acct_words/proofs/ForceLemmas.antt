@@ -1,5 +1,6 @@
 -- What the first step of a force owes the rule.
-use Rattle.std.proofs.Common.{◌≡◌, ℕ, ◌+◌, ◌%◌, ◌^◌, ◌<◌, ◌≤◌, true, cond, ◌==◌, List, [], ◌∷◌, ◌++◌, length, slice_index, refl, sym, ap, subst, arith, sum_by, All}
+use Rattle.std.proofs.Common.{◌≡◌, ℕ, ◌+◌, ◌%◌, ◌^◌, ◌<◌, ◌≤◌, true, cond, ◌==◌, List, [], ◌∷◌, ◌++◌, length, slice_index, refl, sym, ap}
+use Rattle.std.proofs.Common.{subst, arith, sum_by, All}
 use Rattle.mem_num.specs.declared.bounds.TheConstants.{MAX_RESERVATION}
 use mathlib.Core.Option.{some, none}
 use lib.ListN.{get_elem?}

@@ -1,5 +1,6 @@
 -- The rule after a step that stands in the history.
-use Rattle.std.proofs.Common.{◌≡◌, ℕ, ◌+◌, ◌*◌, ◌<◌, ◌≤◌, ◌≢◌, List, [], ◌∷◌, ◌++◌, length, set, slice_index, refl, ◌∙◌, subst, arith, sum_by, sum, All, ⊎_elim, length-set, eqb, eq-eqb, Bool, true, false, cond}
+use Rattle.std.proofs.Common.{◌≡◌, ℕ, ◌+◌, ◌*◌, ◌<◌, ◌≤◌, ◌≢◌, List, [], ◌∷◌, ◌++◌, length, set, slice_index, refl, ◌∙◌, subst, arith}
+use Rattle.std.proofs.Common.{sum_by, sum, All, ⊎_elim, length-set, eqb, eq-eqb, Bool, true, false, cond}
 use mathlib.Core.Option as option
 use mathlib.Core.Option.{some}
 use lib.ListN.{get_elem?}

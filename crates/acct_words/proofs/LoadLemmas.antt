@@ -1,5 +1,7 @@
 -- Loads, and the drawing of a number, which change no account.
-use Rattle.std.proofs.Common.{◌≡◌, ℕ, ◌+◌, ◌%◌, ◌^◌, ◌<◌, ◌≤◌, Bool, true, false, cond, ◌==◌, List, [], ◌∷◌, ◌++◌, length, set, slice_index, refl, sym, ap, subst, arith, sum_by, All, mod-eq_of_lt, ne_eqb, get_or-set_same, get_or-set_other}
+use Rattle.std.proofs.Common.{◌≡◌, ℕ, ◌+◌, ◌%◌, ◌^◌, ◌<◌, ◌≤◌, Bool, true, false, cond, ◌==◌, List, [], ◌∷◌, ◌++◌, length, set}
+use Rattle.std.proofs.Common.{slice_index, refl, sym, ap, subst, arith, sum_by, All, mod-eq_of_lt, ne_eqb, get_or-set_same}
+use Rattle.std.proofs.Common.{get_or-set_other}
 use mathlib.Core.Option as option
 use mathlib.Core.Option.{some, none}
 use lib.ListN.{get_elem?}

@@ -9,10 +9,12 @@ use Rattle.acct_core.specs.Claims.{Claim}
 use Rattle.acct_words.specs.Views.{Start, Chunk, Body, View}
 use Rattle.acct_words.specs.declared.rule.Said.{Said}
 use Rattle.acct_words.specs.Entries.{InHistory}
-use Rattle.acct_words.specs.Bodies.{plus, left, right, both, spent, total, IsWeight, made, bytes_left, turns_left, charging, chunk_sizes, numbered}
+use Rattle.acct_words.specs.Bodies.{plus, left, right, both, spent, total, IsWeight, made, bytes_left, turns_left, charging, chunk_sizes}
+use Rattle.acct_words.specs.Bodies.{numbered}
 use Rattle.acct_words.specs.Rows.{charges_of, claims_of, rows_of}
 use Rattle.acct_words.specs.Rule.{IsGoodView, IsSoundTable}
-use Rattle.acct_words.proofs.ViewLemmas.{total_cut, total_join, made_weighs, bytes_weigh, turns_weigh, charges_weigh, sizes_weigh, numbers_weigh}
+use Rattle.acct_words.proofs.ViewLemmas.{total_cut, total_join, made_weighs, bytes_weigh, turns_weigh, charges_weigh, sizes_weigh}
+use Rattle.acct_words.proofs.ViewLemmas.{numbers_weigh}
 use Rattle.acct_core.proofs.SameClaimsLemmas.{same_fixed, same_from, All-left, All-right}
 use Rattle.acct_words.proofs.ClaimLemmas.{claims_of-sum, its_charges, all_at, all_from}
 use Rattle.acct_words.proofs.KeptLemmas.{good_nothing, good_plus}

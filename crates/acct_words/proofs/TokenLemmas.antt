@@ -1,5 +1,6 @@
 -- What the calls make of tokens, as their callers see them.
-use Rattle.std.proofs.Common.{◌≡◌, ◌≢◌, ℕ, ◌+◌, ◌<◌, ◌≤◌, Bool, true, false, not, cond, ◌||◌, ◌==◌, List, [], ◌∷◌, ◌++◌, map, All, Option, Some, None, refl, sym, ap, ◌∙◌, subst, arith, eq-eqb, ne_eqb, ⊎_elim}
+use Rattle.std.proofs.Common.{◌≡◌, ◌≢◌, ℕ, ◌+◌, ◌<◌, ◌≤◌, Bool, true, false, not, cond, ◌||◌, ◌==◌, List, [], ◌∷◌, ◌++◌, map, All, Option}
+use Rattle.std.proofs.Common.{Some, None, refl, sym, ap, ◌∙◌, subst, arith, eq-eqb, ne_eqb, ⊎_elim}
 use Rattle.std.specs.Prelude.{is_none, is_some, IsTrue}
 use Rattle.std.proofs.lemmas.Bool.{cases_eq, cases_lt, lt-ltb, le-ltb}
 use Rattle.std.proofs.lemmas.List.{append_assoc, append-nil}
@@ -26,8 +27,9 @@ use Rattle.acct_words.specs.Calls.{HasEmptyChunk, TurnsBack}
 use Rattle.acct_words.specs.Climbs.{IsForced, refusal_of, full_at}
 use Rattle.acct_words.specs.Falls.{IsReleased, rest_of, released}
 use Rattle.acct_words.specs.Charges.{draw_entry, still_entry, ViewCharges, ViewRefuses}
-use Rattle.acct_words.specs.Tokens.{AccountsTable, History, CallerToken, ChunkToken, history_of, is_charged, without, charges_in, charged_in, IsHeldAs, IsChargeOf, HasOneChunk}
-use Rattle.acct_words.specs.CallHistories.{IsWithinLimit, HasCharged, HasBeenRefused, HasForced, HasDischarged, TakesIn}
+use Rattle.acct_words.specs.Tokens.{AccountsTable, History, CallerToken, ChunkToken, history_of, is_charged, without, charges_in}
+use Rattle.acct_words.specs.Tokens.{charged_in, IsHeldAs, IsChargeOf, HasOneChunk}
+use Rattle.acct_words.specs.CallHistories.{StaysWithinLimit, HasCharged, HasBeenRefused, HasForced, HasDischarged, TakesIn}
 
 -- what is shown of a view's tree and history is shown of the caller token that has the view, and of the table
 pub of_caller : (P : List Fixed → History → Type 0) (id : TableId) (v : View) (budget : Budget) (token : CallerToken)
@@ -53,12 +55,12 @@ of_chunk P id v number size token table is same h = subst (λ (t : AccountsTable
     (subst (λ (t : ChunkToken). P t.table.start.tree t.history) is h)
 
 -- where no step went past its limit, each is within it
-all_within : (steps : List LevelStep) → any_past steps ≡ false → All IsWithinLimit steps
-all_within [] e = All-nil IsWithinLimit
+all_within : (steps : List LevelStep) → any_past steps ≡ false → All StaysWithinLimit steps
+all_within [] e = All-nil StaysWithinLimit
 all_within (s ∷ steps) e = ⊎_elim
     (λ (h : s.limit < s.old + s.amount). (let p : is_past s ≡ true = lt-ltb s.limit (s.old + s.amount) h in let q : true ≡ false =
     sym (ap (λ (b : Bool). b || any_past steps) p) ∙ e in absurd cc))
-    (λ (h : s.old + s.amount ≤ s.limit). All-cons IsWithinLimit s steps h (all_within steps (by (is_past s) e)))
+    (λ (h : s.old + s.amount ≤ s.limit). All-cons StaysWithinLimit s steps h (all_within steps (by (is_past s) e)))
     (cases_lt s.limit (s.old + s.amount))
   where
     by : (b : Bool) → b || any_past steps ≡ false → any_past steps ≡ false

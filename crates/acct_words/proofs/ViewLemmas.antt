@@ -6,7 +6,8 @@ use Rattle.std.proofs.lemmas.List.Sums.{sum_by-append, sum_by-cons, sum_by_push}
 use Rattle.acct_core.specs.Claims.{Claim}
 use Rattle.acct_words.specs.Entries.{Entry}
 use Rattle.acct_words.specs.Views.{Body, View}
-use Rattle.acct_words.specs.Bodies.{plus, left, right, both, spent, of_view, total, IsWeight, made, bytes_left, turns_left, charging, chunk_sizes, numbered}
+use Rattle.acct_words.specs.Bodies.{plus, left, right, both, spent, of_view, total, IsWeight, made, bytes_left, turns_left, charging}
+use Rattle.acct_words.specs.Bodies.{chunk_sizes, numbered}
 
 module _ {A : Type 0} where
   -- a sum after a change of one place

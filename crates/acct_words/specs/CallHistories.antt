@@ -31,8 +31,8 @@ pub record IsPause (entry : Entry) : Type 0 where
   pub kind : entry.kind ≡ LoadWord
 
 -- what a step led to is within the limit that was read after it
-abbrev pub IsWithinLimit : LevelStep → Type 0
-IsWithinLimit step = step.old + step.amount ≤ step.limit
+abbrev pub StaysWithinLimit : LevelStep → Type 0
+StaysWithinLimit step = step.old + step.amount ≤ step.limit
 
 -- A charge of this size at an allocator succeeded. The token drew the number and went up the levels, and each level that it touched was
 -- within its limit
@@ -44,7 +44,7 @@ pub record HasCharged (tree : List Fixed) (at size number : ℕ) (old new : Hist
   pub drew : IsDraw number draw
   pub climb : Climbs tree at size steps None
   pub shows : Shows up steps
-  pub within : All IsWithinLimit steps
+  pub within : All StaysWithinLimit steps
   pub paused : IsPause pause
   pub made : Makes (draw ∷ (up ++ pause ∷ [])) old new
 

@@ -1,5 +1,6 @@
 -- A request's way up the levels, as its token's own steps show it.
-use Rattle.std.specs.Prelude.{◌≡◌, ℕ, suc, ◌+◌, ◌-◌, ◌<◌, ◌==◌, Bool, true, false, if◌then◌else◌, List, [], ◌∷◌, ◌++◌, length, Option, Some, None}
+use Rattle.std.specs.Prelude.{◌≡◌, ℕ, suc, ◌+◌, ◌-◌, ◌<◌, ◌==◌, Bool, true, false, if◌then◌else◌, List, [], ◌∷◌, ◌++◌, length, Option}
+use Rattle.std.specs.Prelude.{Some, None}
 use Rattle.mem_num.specs.declared.full.Full.{Full}
 use Rattle.mem_model.specs.Reservation.{beyond_reservation}
 use Rattle.acct_core.specs.declared.level_step.LevelStep.{LevelStep}

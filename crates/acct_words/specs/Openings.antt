@@ -10,8 +10,8 @@ use Rattle.acct_words.specs.Rows.{node, rows_of}
 use Rattle.acct_words.specs.Rule.{reservations}
 
 -- a reservation is within the limit, and no larger than the largest one
-abbrev pub IsWithinLimit : Fixed → Type 0
-IsWithinLimit node = (node.reservation ≤ node.limit) × (node.reservation ≤ MAX_RESERVATION)
+abbrev pub ReservesWithinLimit : Fixed → Type 0
+ReservesWithinLimit node = (node.reservation ≤ node.limit) × (node.reservation ≤ MAX_RESERVATION)
 
 -- each allocator but the first comes after its parent
 abbrev pub ComeAfterParents : List Fixed → Type 0
@@ -24,7 +24,7 @@ pub record IsFixedTree (tree : List Fixed) : Type 0 where
   pub few : length tree ≤ MOST_ALLOCATORS
   pub root : ((node tree 0).parent.0 ≡ 0) × ((node tree 0).reservation ≡ 0)
   pub parents : ComeAfterParents tree
-  pub within : All IsWithinLimit tree
+  pub within : All ReservesWithinLimit tree
 
 -- how much may be asked for at most
 pub record IsWithinBudget (budget : Budget) : Type 0 where

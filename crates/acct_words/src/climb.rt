@@ -1,11 +1,10 @@
 //! The way of a request up the levels.
-ghost use Rattle.std.specs.Prelude.{◌≡◌, ℕ, ◌+◌, ◌-◌, ◌*◌, ◌^◌, ◌<◌, ◌≤◌, ◌==◌, Bool, true, false, cond, List, [], ◌∷◌, ◌++◌, length, Some, None};
+ghost use Rattle.std.specs.Prelude.{◌≡◌, ℕ, ◌+◌, ◌-◌, ◌^◌, ◌<◌, ◌≤◌, List, [], ◌∷◌, length, Some, None};
 ghost use Rattle.mem_num.specs.declared.bounds.TheConstants.{MAX_RESERVATION, MOST_ALLOCATORS};
-ghost use Rattle.acct_core.specs.Claims.{Claim};
 ghost use Rattle.acct_core.specs.declared.level_step.LevelStep.{LevelStep};
 ghost use Rattle.acct_words.specs.Calls.{IsOf, GoesUp, HasEmptyChunk};
-ghost use Rattle.acct_words.specs.Climbs.{HasBegun, HasRisen, IsCharged, next_asked, level_step, first_of, refusal_of};
-ghost use Rattle.acct_words.specs.Rows.{node};
+ghost use Rattle.acct_words.specs.Climbs.{GoesOn, HasBegun, HasRisen, IsCharged, IsGoing, IsInTree};
+ghost use Rattle.acct_words.specs.Climbs.{next_asked, level_step, first_of, refusal_of};
 
 use crate::fixed::Fixed;
 use crate::rule::Counters;
@@ -106,6 +105,30 @@ pub fn climb_level(
     )
 }
 
+/// Goes up the levels that are left, and answers the refusal of the lowest level that went past its limit.
+pub fn climb_on(
+    words: &Counters,
+    nodes: &[Fixed],
+    token: &mut Token,
+    at: usize,
+    mut full: Option<Full>,
+    mut next: Option<(usize, u64)>,
+) -> Option<Full>
+    requires table { IsOf words.now token.old }
+    requires nodes { nodes.now ≡ words.now.key.nodes.items }
+    requires inside { IsInTree nodes.now next }
+    requires going { IsGoing at token.old.me.0 full next }
+    ensures table { (token.new.table_id ≡ token.old.table_id) × (token.new.me.1 ≡ token.old.me.1) }
+    ensures went { GoesOn at token.old.me.0 token.new.me.0 full result next None }
+{
+    while let Some((level, amount)) = next {
+        let (refused, further) = climb_level(words, nodes, token, at, level, amount);
+        full = lower(full, refused);
+        next = further;
+    }
+    full
+}
+
 /// Charges the chunk in hand at an allocator and further up, and answers the refusal of the lowest level that went past its limit.
 pub fn climb(
     words: &Counters,
@@ -123,11 +146,6 @@ pub fn climb(
     ensures climbed { (steps : List LevelStep) × IsCharged at size token.old.me.0 token.new.me.0 steps None
         × (result ≡ refusal_of at steps) }
 {
-    let (mut full, mut next) = begin_level(words, nodes, token, at, size);
-    while let Some((level, amount)) = next {
-        let (refused, further) = climb_level(words, nodes, token, at, level, amount);
-        full = lower(full, refused);
-        next = further;
-    }
-    full
+    let (full, next) = begin_level(words, nodes, token, at, size);
+    climb_on(words, nodes, token, at, full, next)
 }

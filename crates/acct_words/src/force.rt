@@ -3,9 +3,9 @@ ghost use Rattle.std.specs.Prelude.{◌≡◌, ℕ, ◌^◌, ◌<◌, ◌≤◌,
 ghost use Rattle.mem_num.specs.declared.bounds.TheConstants.{MAX_RESERVATION};
 ghost use Rattle.acct_core.specs.declared.level_step.LevelStep.{LevelStep};
 ghost use Rattle.acct_words.specs.Calls.{IsOf, HasRoom};
-ghost use Rattle.acct_words.specs.Climbs.{GoesOn, HasBegunForce, IsForced, IsGoing, IsInTree, level_step, next_asked, refusal_of};
+ghost use Rattle.acct_words.specs.Climbs.{HasBegunForce, IsForced, level_step, next_asked, refusal_of};
 
-use crate::climb::{climb_level, lower, next_level, refused_at};
+use crate::climb::{climb_on, next_level, refused_at};
 use crate::fixed::Fixed;
 use crate::rule::Counters;
 use crate::steps::{Token, begin_force, read_limit};
@@ -35,30 +35,6 @@ fn force_level(
         refused_at(at, at, found, size, limit),
         next_level(nodes, at, size, found),
     )
-}
-
-/// Goes up the levels that are left, and answers the refusal of the lowest level that went past its limit.
-pub fn climb_on(
-    words: &Counters,
-    nodes: &[Fixed],
-    token: &mut Token,
-    at: usize,
-    mut full: Option<Full>,
-    mut next: Option<(usize, u64)>,
-) -> Option<Full>
-    requires table { IsOf words.now token.old }
-    requires nodes { nodes.now ≡ words.now.key.nodes.items }
-    requires inside { IsInTree nodes.now next }
-    requires going { IsGoing at token.old.me.0 full next }
-    ensures table { (token.new.table_id ≡ token.old.table_id) × (token.new.me.1 ≡ token.old.me.1) }
-    ensures went { GoesOn at token.old.me.0 token.new.me.0 full result next None }
-{
-    while let Some((level, amount)) = next {
-        let (refused, further) = climb_level(words, nodes, token, at, level, amount);
-        full = lower(full, refused);
-        next = further;
-    }
-    full
 }
 
 /// Charges the chunk in hand a second time, at an allocator and further up, and undoes nothing.

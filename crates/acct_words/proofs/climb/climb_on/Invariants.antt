@@ -1,6 +1,6 @@
 use Rattle.std.proofs.Common.{◌≡◌}
 use Rattle.acct_words.specs.Climbs.{GoesOn, IsGoing, IsInTree, levels_left}
-use Rattle.acct_words.proofs.force.climb_on.Given as goal
+use Rattle.acct_words.proofs.climb.climb_on.Given as goal
 
 abbrev pub invariant-loop-next : goal.invariant-loop-next
 invariant-loop-next l = record {

@@ -2,7 +2,7 @@ use Rattle.std.proofs.Common.{refl, ap, ◌∙◌, sym, subst}
 use Rattle.acct_words.specs.Rows.{HasParentsBefore}
 use Rattle.acct_words.specs.Climbs.{GoesOn, IsGoing, IsInTree}
 use Rattle.acct_words.proofs.ClimbLemmas.{level_goes_on, goes_on_then, going_on, going_up, next_in_tree}
-use Rattle.acct_words.proofs.force.climb_on.Goals as goal
+use Rattle.acct_words.proofs.climb.climb_on.Goals as goal
 
 pub loop-next-init : goal.loop-next-init
 loop-next-init c = record {
