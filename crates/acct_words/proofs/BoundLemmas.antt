@@ -15,7 +15,7 @@ use Rattle.acct_core.specs.Phases.{size_of, pending_subtraction}
 use Rattle.acct_core.specs.declared.row.Row.{Row}
 use Rattle.acct_core.proofs.CoverLemmas.{covered}
 use Rattle.acct_core.proofs.FixedTreeLemmas.{held_law}
-use Rattle.acct_words.specs.Entries.{StepKind, Entry, size_begun, reached, draw_count, begun, drew}
+use Rattle.acct_words.specs.Entries.{StepKind, Entry, size_begun, size_forgotten, reached, draw_count, begun, drew}
 use Rattle.acct_words.specs.Views.{Start, Chunk, View}
 use Rattle.acct_words.specs.declared.rule.Said.{Said}
 use Rattle.acct_words.specs.Places.{number_word, held_word, limit_word}
@@ -29,7 +29,7 @@ use Rattle.acct_words.proofs.AccountLemmas.{held_bounded, row_found, row_open}
 use Rattle.acct_words.proofs.KeptLemmas.{step_kept}
 
 -- the size of the request that a claim is at
-abbrev its_size : Claim → ℕ
+abbrev pub its_size : Claim → ℕ
 its_size c = size_of c.phase
 
 -- the charges of a good chunk are at most twice its size
@@ -49,7 +49,7 @@ abbrev pub HasGoodChunks : View → Type 0
 HasGoodChunks v = All IsGoodChunk v.own.chunks × All IsGoodChunk v.offer.chunks
 
 -- all claims are at most twice the sizes of all chunks
-views_bound : (views : List View) → ((j : ℕ) (v : View) → get_elem? views j ≡ some v → HasGoodChunks v) →
+pub views_bound : (views : List View) → ((j : ℕ) (v : View) → get_elem? views j ≡ some v → HasGoodChunks v) →
     total (charging its_size) views ≤ 2 * total chunk_sizes views
 views_bound [] h = omega arith
 views_bound (v ∷ views) h =
@@ -60,7 +60,8 @@ views_bound (v ∷ views) h =
 -- an addition to the held word of m, which begins a charge or goes on with one
 module _ (start : Start) (s : State Said View) (homes : List (option.Option Said)) (id : ℕ) (v w : View) (k : IsSoundTable start s)
     (at : get_elem? s.views id ≡ some v) (m amount : ℕ) (act : StepKind)
-    (there : m < length start.tree) (is_addition : (n : ℕ) → reached act n ≡ n + amount) (draws_none : draw_count act ≡ 0) where
+    (there : m < length start.tree) (is_addition : (n : ℕ) → reached act n ≡ n + amount) (draws_none : draw_count act ≡ 0)
+    (forgets_none : size_forgotten act ≡ 0) where
   abbrev n : ℕ
   n = slice_index s.words (held_word m)
 
@@ -123,7 +124,7 @@ module _ (start : Start) (s : State Said View) (homes : List (option.Option Said
           made = c.made;
           bytes = c.bytes;
           turns = (let t = c.turns in let z = draws_none in omega arith);
-          sizes = c.sizes;
+          sizes = (let p = c.sizes in let z = forgets_none in omega arith);
           numbers = λ j. (let p = c.numbers j in omega arith);
           fresh = λ j ne. draws_no_number j;
           good = c.good;

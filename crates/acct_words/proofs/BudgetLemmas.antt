@@ -16,37 +16,21 @@ use Rattle.acct_words.specs.Moves.{reading}
 use Rattle.acct_words.specs.Rule.{IsGoodChunk, IsSoundTable}
 use Rattle.acct_words.specs.Plays.{entry, stepping, Counts, Pays, paying_view}
 use Rattle.acct_words.proofs.ViewLemmas.{at_most}
-use Rattle.acct_core.proofs.SameClaimsLemmas.{same_self, same_path}
+use Rattle.acct_core.proofs.SameClaimsLemmas.{same_path}
 use Rattle.acct_words.proofs.ClaimLemmas.{its_charges}
 use Rattle.acct_words.proofs.KeptLemmas.{good_longer}
 use Rattle.acct_words.proofs.StepLemmas.{steps_more}
-use Rattle.acct_words.proofs.LoadLemmas.{load_kept}
+use Rattle.acct_words.proofs.LoadLemmas.{quiet_load, load_kept, reading_owed}
 
 -- a load that reads the budget
 pub counts_allowed : (slots id i : ℕ) (me : Me Said View) → Allows (IsSoundTable me.0.start) slots id me i (λ n. n)
     (Counts (step slots i 0 0 none) me)
 counts_allowed slots id i me s k _ at _ =
-    let e = entry (length k.history) i LoadWord (slice_index s.words i) in
-    let w = stepping reading me.0 e in (
+    let w = stepping reading me.0 (entry (length k.history) i LoadWord (slice_index s.words i)) in (
       w,
       keeps,
       tt,
-      load_kept me.0.start s s.homes id me.0 w k at i (record {
-        claims = same_self (its_charges me.0);
-        made = λ f. (let q = sum_by_push f me.0.own.own_steps e in omega arith);
-        bytes = omega arith;
-        turns = omega arith;
-        sizes = omega arith;
-        numbers = λ m. omega arith;
-        good = (let old = k.tokens id me.0 at in (
-          record {
-            own_steps = steps_more k.history e me.0.own old.0 refl;
-            observed = (good_longer k.history e me.0.own old.0).observed;
-            chunks = old.0.chunks;
-          },
-          good_longer k.history e me.0.offer old.1,
-        ));
-      }),
+      load_kept me.0.start s s.homes id me.0 w k at i LoadWord (reading_owed me.0.start s id me.0 k at i),
       (
         (length k.history, refl),
         refl,
@@ -64,7 +48,8 @@ pays_allowed slots id i me said none_offered bytes turns s k _ at _ =
     let e = entry (length k.history) i LoadWord n in
     let w = paying_view me.0 said.bytes said.turns (length k.history) i n in
     let old = k.tokens id me.0 at in
-    let kept = load_kept me.0.start s s.homes id me.0 w k at i (record {
+    let kept = load_kept me.0.start s s.homes id me.0 w k at i LoadWord (record {
+      quiet = quiet_load;
       claims = same_path (its_charges me.0) (its_charges w) (ap (λ (b : Body). charges_of me.0.own.chunks ++ charges_of b.chunks)
           none_offered);
       made = λ f. (let q = sum_by_push f me.0.own.own_steps e in let z = ap (made f) none_offered in omega arith);

@@ -9,11 +9,12 @@ use Rattle.acct_words.specs.declared.rule.Said.{Said}
 use Rattle.acct_words.specs.Places.{number_word, held_word, limit_word}
 use Rattle.acct_words.specs.Bodies.{nothing}
 use Rattle.acct_words.specs.Rule.{IsSoundTable}
-use Rattle.acct_words.specs.Plays.{Draws, Begins, Forces, Rises, Reads, Parts, Turns, Falls, Forgets, Counts, Pays}
+use Rattle.acct_words.specs.Plays.{Draws, Begins, Forces, Rises, Reads, Looks, Parts, Turns, Falls, Forgets, Counts, Pays}
 use Rattle.acct_words.specs.Calls.{HasChunk, HasEmptyChunk, HasRoom, GoesUp, TurnsBack, GoesDown}
 use Rattle.acct_words.proofs.StepLemmas.{begins_allowed, rises_allowed}
 use Rattle.acct_words.proofs.BudgetLemmas.{counts_allowed, pays_allowed}
 use Rattle.acct_words.proofs.ForceLemmas.{forces_allowed}
+use Rattle.acct_words.proofs.HeldLemmas.{looks_allowed}
 use Rattle.acct_words.proofs.FallLemmas.{falls_allowed, turns_allowed, forgets_allowed}
 use Rattle.acct_words.proofs.LoadLemmas.{draws_allowed, reads_allowed, parts_allowed}
 
@@ -46,6 +47,13 @@ module _ (start : Start) (slots id : ℕ) (me : Me Said View) (same : me.0.start
   read_owes m there = subst (λ (x : Start). Allows (IsSoundTable x) slots id me (limit_word m) (λ n. n)
       (Reads (step slots (limit_word m) 0 0 none) me)) same
       (reads_allowed slots id me m (subst (λ (x : Start). m < length x.tree) (sym same) there))
+
+  -- the reading of a held number
+  pub look_owes : (m : ℕ) → m < length start.tree → Allows (IsSoundTable start) slots id me (held_word m) (λ n. n)
+      (Looks (step slots (held_word m) 0 0 none) me)
+  look_owes m there = subst (λ (x : Start). Allows (IsSoundTable x) slots id me (held_word m) (λ n. n)
+      (Looks (step slots (held_word m) 0 0 none) me)) same
+      (looks_allowed slots id me m (subst (λ (x : Start). m < length x.tree) (sym same) there))
 
   -- the offer of a chunk
   pub part_owes : (i : ℕ) → HasChunk me.0 → me.0.offer ≡ nothing →

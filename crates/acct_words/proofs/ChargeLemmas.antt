@@ -7,18 +7,18 @@ use Rattle.acct_core.specs.Phases.{Phase, is_past, any_past}
 use Rattle.acct_core.specs.Phases.Phase.{Held, Failed}
 use Rattle.acct_core.specs.Claims.{claim_at}
 use Rattle.acct_core.specs.Effects.{ended}
-use Rattle.acct_words.specs.Entries.StepKind.{LoadWord, DrawChunkNumber}
+use Rattle.acct_words.specs.Entries.StepKind.{DrawChunkNumber, ForgetChunk}
 use Rattle.acct_words.specs.Entries.{Entry}
 use Rattle.acct_words.specs.Views.{Chunk, View}
 use Rattle.acct_words.specs.Places.{still_word, number_word, held_word}
 use Rattle.acct_words.specs.Bodies.{nothing, left}
 use Rattle.acct_words.specs.Moves.{drawing, charged_as, first_chunk, other_chunks, one_chunk, to_front, parting, parted}
-use Rattle.acct_words.specs.Plays.{Steps, stepping}
+use Rattle.acct_words.specs.Plays.{Steps, first_size, stepping}
 use Rattle.acct_words.specs.Calls.{HasChunk, HasEmptyChunk, HasParted, TurnsBack}
 use Rattle.acct_core.specs.FixedTrees.{CanTurnRound}
 use Rattle.acct_words.specs.Climbs.{Climbs, IsCharged, refusal_of, full_at, standing}
 use Rattle.acct_words.specs.Falls.{Descends, IsReleased, rest_of, released}
-use Rattle.acct_words.specs.Charges.{draw_entry, still_entry, ViewCharges, ViewRefuses}
+use Rattle.acct_words.specs.Charges.{draw_entry, still_entry, forget_entry, ViewCharges, ViewRefuses}
 
 -- steps after one and others
 before_all : (xs : List Entry) (e : Entry) (ys : List Entry) → (xs ++ e ∷ []) ++ ys ≡ xs ++ e ∷ ys
@@ -126,6 +126,7 @@ charge_done at size number v d w x new steps whole s c none p =
       climb = subst (λ l. Climbs l at size steps None) tree c.climbed.climb;
       within = within;
       shows = c.climbed.shows;
+      begins = c.climbed.begins;
       token = kept;
       chunk = p.given ∙ (λ j. record {
         start = ((ap (λ (y : View). y.start) view ∙ sym (ap (λ (y : View). y.start) kept)) j);
@@ -211,11 +212,11 @@ released_empty at size number v d w x steps back s c r = record {
 pub charge_refused : (at size number : ℕ) (v d w x y : View) (steps : List LevelStep) (back : List Entry) (full : Full) (found : ℕ)
     (s : Steps DrawChunkNumber drawing number_word number v d) (c : IsCharged at size d w steps None) → refusal_of at steps ≡ Some full →
     IsReleased at size w x back None
-    → Steps LoadWord parting still_word found x y → ViewRefuses at size v y full
+    → Steps (ForgetChunk (first_size x.own.chunks)) parting still_word found x y → ViewRefuses at size v y full
 charge_refused at size number v d w x y steps back full found s c refusal r f =
     let tree : d.start.tree ≡ v.start.tree = ap (λ (y : View). y.start.tree) s.1 in
     let its_tree : w.start.tree ≡ v.start.tree = ap (λ (y : View). y.start.tree) (climbed_view at size number v d w steps s c) in
-    let e = still_entry f.0 found in
+    let e = forget_entry f.0 size found in
     let all = draw_entry s.0 number ∷ (c.climbed.entries ++ back) in
     record {
       draw_name = s.0;
@@ -228,8 +229,10 @@ charge_refused at size number v d w x y steps back full found s c refusal r f =
       climb = subst (λ l. Climbs l at size steps None) tree c.climbed.climb;
       refusal = refusal;
       shows = c.climbed.shows;
+      begins = c.climbed.begins;
       descent = subst (λ l. Descends l at size back None) its_tree r.descent;
-      token = f.1 ∙ ap (λ (z : View). stepping parting z e) (released_view at size number v d w x steps back s c r)
+      token = f.1 ∙ ap (λ (z : View). stepping parting z (forget_entry f.0 (first_size z.own.chunks) found))
+          (released_view at size number v d w x steps back s c r)
           ∙ (λ j. record {
             start = v.start;
             own =

@@ -1,6 +1,7 @@
 -- One level more of a request's way up.
 use Rattle.std.proofs.Common.{zero, suc, ◌≡◌, ℕ, ◌-◌, ◌<◌, List, [], ◌∷◌, ◌++◌, Bool, true, false, cond, Option, Some, None, length, refl}
 use Rattle.std.proofs.Common.{sym, ap, ◌∙◌, subst, arith}
+use Rattle.std.proofs.lemmas.List.Sums.{sum_by-append, sum_by-cons}
 use Rattle.mem_num.specs.declared.full.Full.{Full}
 use Rattle.acct_core.specs.Claims.{Claim, claim_at}
 use Rattle.acct_core.specs.declared.level_step.LevelStep.{LevelStep}
@@ -8,7 +9,7 @@ use Rattle.acct_core.specs.Phases.Phase.{Up}
 use Rattle.acct_core.specs.Effects.{passed, goes_on}
 use Rattle.acct_core.specs.Phases.{is_past}
 use Rattle.acct_words.specs.Entries.StepKind.{LoadWord, BeginCharge, AddHeld}
-use Rattle.acct_words.specs.Entries.{Entry}
+use Rattle.acct_words.specs.Entries.{Entry, begun}
 use Rattle.acct_words.specs.declared.fixed.Fixed.{Fixed}
 use Rattle.acct_words.specs.Views.{Chunk, View}
 use Rattle.acct_words.specs.Places.{held_word, limit_word}
@@ -44,6 +45,7 @@ climb_begins at size found v w chunk others is h =
       climb = adds found begins;
       entries = a ∷ b ∷ [];
       shows = more none (record { held = refl; added = refl; returned = refl; read = refl; loads = refl; limit_is = refl });
+      begins = (let x = sum_by-cons begun a (b ∷ []) in let y = sum_by-cons begun b [] in omega arith);
       view = h.view ∙ (λ j. record {
         start = v.start;
         own = record {
@@ -77,6 +79,8 @@ climb_goes_on at size forced chunk rest others bytes turns v w x steps m amount 
       climb = adds found c.climb;
       entries = c.entries ++ a ∷ b ∷ [];
       shows = more c.shows (record { held = refl; added = refl; returned = refl; read = refl; loads = refl; limit_is = refl });
+      begins = (let o = c.begins in let q = sum_by-append begun c.entries (a ∷ b ∷ []) in let x = sum_by-cons begun a (b ∷ []) in let y =
+          sum_by-cons begun b [] in omega arith);
       view = h.view ∙ (λ j. stepping reading (stepping (rising (c.view j).start.tree) (c.view j) a)
           (entry h.second_name (limit_word m) LoadWord (node (c.view j).start.tree m).limit))
           ∙ (λ j. record {
@@ -245,6 +249,7 @@ force_begins tree at size found v w full next t c h f n =
               climb = adds found begins;
               entries = a ∷ b ∷ [];
               shows = more none (record { held = refl; added = refl; returned = refl; read = refl; loads = refl; limit_is = refl });
+              begins = (let x = sum_by-cons begun a (b ∷ []) in let y = sum_by-cons begun b [] in omega arith);
               view = h.view ∙ (λ j. record {
                 start = v.start;
                 own = record {

@@ -13,7 +13,7 @@ use Rattle.acct_core.specs.Phases.Phase.{Free, In, Up, Held, Failed, Down, Bounc
 use Rattle.acct_core.specs.Effects.{passed, goes_back}
 use Rattle.acct_core.specs.Lawful.{IsLawfulFixedTree}
 use Rattle.mem_model.specs.Reservation.{beyond_reservation}
-use Rattle.acct_words.specs.Entries.StepKind.{LoadWord, SubtractHeld}
+use Rattle.acct_words.specs.Entries.StepKind.{SubtractHeld, ForgetChunk}
 use Rattle.acct_words.specs.Entries.{Entry}
 use Rattle.acct_words.specs.declared.fixed.Fixed.{Fixed}
 use Rattle.acct_words.specs.Views.{Start, Chunk, View}
@@ -24,7 +24,7 @@ use Rattle.acct_words.specs.Rows.{node, charges_of, rows_of}
 use Rattle.acct_words.specs.Moves.{found_row, fallen, turned, behind, to_front, charged_as, first_chunk, falling_charges, turning_charges}
 use Rattle.acct_words.specs.Moves.{falling, turning, other_chunks, parting}
 use Rattle.acct_words.specs.Rule.{IsGoodChunk, IsGoodView, IsSoundTable}
-use Rattle.acct_words.specs.Plays.{entry, stepping, Falls, Turns, Forgets}
+use Rattle.acct_words.specs.Plays.{entry, stepping, Falls, Turns, Forgets, first_size}
 use Rattle.acct_core.specs.FixedTrees.{CanTurnRound, settled}
 use Rattle.acct_core.proofs.FixedTreeLemmas.{turn_fixed}
 use Rattle.acct_core.specs.SameClaims.{SameClaims}
@@ -34,7 +34,7 @@ use Rattle.acct_words.proofs.AccountLemmas.{claims_out, fall_moves, falls_there,
 use Rattle.acct_words.proofs.KeptLemmas.{step_kept, good_longer}
 use Rattle.acct_words.proofs.BoundLemmas.{held_small}
 use Rattle.acct_words.proofs.StepLemmas.{steps_more, first_charges}
-use Rattle.acct_words.proofs.LoadLemmas.{IsLoad, load_kept, known_after}
+use Rattle.acct_words.proofs.LoadLemmas.{IsLoad, quiet_forget, load_kept, known_after}
 
 -- a claim behind the first is the same claims
 behind_same : (c : Claim) (rest : List Claim) → SameClaims (c ∷ rest) (behind c rest)
@@ -348,18 +348,20 @@ pub forgets_allowed : (slots id i : ℕ) (me : Me Said View) (k₀ : Chunk) (chu
     k₀.charges ≡ []
     → Allows (IsSoundTable me.0.start) slots id me i (λ n. n) (Forgets (step slots i 0 0 none) me)
 forgets_allowed slots id i me k₀ chunks is empty s k _ at _ =
-    let e = entry (length k.history) i LoadWord (slice_index s.words i) in
+    let act = ForgetChunk (first_size me.0.own.chunks) in
+    let e = entry (length k.history) i act (slice_index s.words i) in
     let w = stepping parting me.0 e in
     let a : w.own.chunks ≡ chunks = ap other_chunks is in
     let old = k.tokens id me.0 at in let its = subst (All IsGoodChunk) is old.0.chunks in
-    let owed : IsLoad me.0.start s s.homes id me.0 w k at i = record {
+    let owed : IsLoad me.0.start s s.homes id me.0 w k at i act = record {
+      quiet = quiet_forget (first_size me.0.own.chunks);
       claims = same_path (its_charges me.0) (its_charges w) (first_charges me.0 k₀ chunks is
           ∙ ap (λ (x : List Claim). (x ++ charges_of chunks) ++ charges_of me.0.offer.chunks) empty
           ∙ ap (λ (x : List Chunk). charges_of x ++ charges_of me.0.offer.chunks) (sym a));
       made = λ f. (let q = sum_by_push f me.0.own.own_steps e in omega arith);
       bytes = omega arith;
       turns = omega arith;
-      sizes = (let p = ap (sum_by (λ (k : Chunk). k.size)) a in let q = ap (sum_by (λ (k : Chunk). k.size)) is in let r =
+      sizes = (let f = ap first_size is in let p = ap (sum_by (λ (k : Chunk). k.size)) a in let q = ap (sum_by (λ (k : Chunk). k.size)) is in let r =
           sum_by-cons (λ (k : Chunk). k.size) k₀ chunks in omega arith);
       numbers = λ m. (let g : Chunk → ℕ = λ k. cond (k.number == m) 1 0 in let p = ap (sum_by g) a in let q = ap (sum_by g) is in let r =
           sum_by-cons g k₀ chunks in omega arith);
@@ -375,6 +377,6 @@ forgets_allowed slots id i me k₀ chunks is empty s k _ at _ =
       w,
       keeps,
       tt,
-      load_kept me.0.start s s.homes id me.0 w k at i owed,
-      ((length k.history, refl), refl, known_after me.0.start s s.homes id me.0 w k at i owed refl),
+      load_kept me.0.start s s.homes id me.0 w k at i act owed,
+      ((length k.history, refl), refl, known_after me.0.start s s.homes id me.0 w k at i act owed refl),
     )

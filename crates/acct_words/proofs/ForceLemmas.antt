@@ -59,7 +59,7 @@ module _ (slots id : ℕ) (me : Me Said View) (m size : ℕ) (k₀ : Chunk) (chu
         size_risen me.0.start.tree found m size m size true [] in omega arith) g.whole;
   }
 
-  force_addition : IsAddition me.0.start s s.homes id me.0 w k at m size (AddHeld size) there (λ n. refl) refl
+  force_addition : IsAddition me.0.start s s.homes id me.0 w k at m size (AddHeld size) there (λ n. refl) refl refl
   force_addition = record {
     lawful = begin_moves me.0.start.tree s.words s.views id me.0 w at k.layout.limits k.layout.wide m size there true all_rest some_size
         small
@@ -94,13 +94,13 @@ forces_allowed slots id me m size k₀ chunks is one size_is some_size small the
       v,
       keeps,
       tt,
-      addition_kept me.0.start s s.homes id me.0 v k at m size (AddHeld size) there (λ n. refl) refl b,
+      addition_kept me.0.start s s.homes id me.0 v k at m size (AddHeld size) there (λ n. refl) refl refl b,
       (
         m,
         refl,
         (length k.history, refl),
         refl,
         addition_small me.0.start s s.homes id me.0 v k at m size (AddHeld size) there
-            (λ n. refl) refl b,
+            (λ n. refl) refl refl b,
       ),
     )

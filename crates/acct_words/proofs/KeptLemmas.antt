@@ -10,8 +10,9 @@ use Rattle.std.proofs.lemmas.List.Sums.{sum-map, sum_by_push}
 use Rattle.atomic_table.specs.Table.{State}
 use Rattle.atomic_table.proofs.Lists.{at_set, at_longer}
 use Rattle.acct_core.specs.Lawful.{IsLawfulFixedTree}
-use Rattle.acct_words.specs.Entries.{StepKind, Entry, size_begun, reached, draw_count, begun, drawn, drew, InHistory}
-use Rattle.acct_words.specs.Entries.StepKind.{LoadWord, DrawChunkNumber, BeginCharge, AddHeld, SubtractHeld}
+use Rattle.acct_words.specs.Entries.{StepKind, Entry, size_begun, size_forgotten, reached, draw_count, begun, forgotten, drawn, drew}
+use Rattle.acct_words.specs.Entries.{InHistory}
+use Rattle.acct_words.specs.Entries.StepKind.{LoadWord, DrawChunkNumber, BeginCharge, AddHeld, SubtractHeld, ForgetChunk}
 use Rattle.acct_words.specs.declared.fixed.Fixed.{Fixed}
 use Rattle.acct_words.specs.Views.{Start, Body, View}
 use Rattle.acct_words.specs.declared.rule.Said.{Said}
@@ -83,7 +84,7 @@ module _ (start : Start) (s : State Said View) (homes : List (option.Option Said
     pub made : (f : Entry → ℕ) → of_view (made f) w ≡ of_view (made f) v + f e
     pub bytes : of_view bytes_left w + size_begun act ≤ of_view bytes_left v
     pub turns : of_view turns_left w + draw_count act ≤ of_view turns_left v
-    pub sizes : of_view chunk_sizes w ≤ of_view chunk_sizes v + size_begun act
+    pub sizes : of_view chunk_sizes w + size_forgotten act ≤ of_view chunk_sizes v + size_begun act
     pub numbers : (m : ℕ) → of_view (numbered m) w ≤ of_view (numbered m) v + drew m e
     pub fresh : (m : ℕ) → m ≢ slice_index s.words number_word → drew m e ≡ 0
     pub good : IsGoodView history w
@@ -100,6 +101,7 @@ module _ (start : Start) (s : State Said View) (homes : List (option.Option Said
         le true (BeginCharge x) = omega arith
         le true (AddHeld x) = omega arith
         le true (SubtractHeld x) = omega arith
+        le true (ForgetChunk x) = omega arith
 
     -- a draw finds the next number
     draws_next : draw_count act ≡ 1 → n ≡ slice_index s.words number_word
@@ -158,8 +160,8 @@ module _ (start : Start) (s : State Said View) (homes : List (option.Option Said
             let r = c.bytes in omega arith);
         turns = (let t = total_set turns_left s.views id v w at in let q = sum_by_push drawn k.history e in let p = k.budget.turns in
             let r = c.turns in omega arith);
-        sizes = (let t = total_set chunk_sizes s.views id v w at in let q = sum_by_push begun k.history e in let p = k.budget.sizes in
-            let r = c.sizes in omega arith);
+        sizes = (let t = total_set chunk_sizes s.views id v w at in let q = sum_by_push begun k.history e in let u =
+            sum_by_push forgotten k.history e in let p = k.budget.sizes in let r = c.sizes in omega arith);
       };
       numbers = record {
         next = (let p = k.numbers.next in let q = sum_by_push drawn k.history e in let r = c.next in omega arith);

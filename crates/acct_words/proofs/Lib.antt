@@ -10,6 +10,7 @@ pub mod StepLemmas
 pub mod LoadLemmas
 pub mod FallLemmas
 pub mod ForceLemmas
+pub mod HeldLemmas
 pub mod CallLemmas
 pub mod ClimbLemmas
 pub mod ReleaseLemmas
@@ -19,3 +20,4 @@ pub mod OpeningLemmas
 pub mod RefusalLemmas
 pub mod BudgetLemmas
 pub mod TokenLemmas
+pub mod ReturnLemmas

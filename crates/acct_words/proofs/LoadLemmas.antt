@@ -12,8 +12,8 @@ use Rattle.atomic_table.specs.Table.{State, Me, Allows, step, keeps}
 use Rattle.acct_core.specs.Claims.{Claim, account}
 use Rattle.acct_core.specs.Lawful.{IsLawfulFixedTree}
 use Rattle.acct_core.specs.Phases.{size_of}
-use Rattle.acct_words.specs.Entries.StepKind.{LoadWord, DrawChunkNumber}
-use Rattle.acct_words.specs.Entries.{Entry, InHistory}
+use Rattle.acct_words.specs.Entries.StepKind.{LoadWord, DrawChunkNumber, ForgetChunk}
+use Rattle.acct_words.specs.Entries.{StepKind, Entry, InHistory, size_begun, size_forgotten, reached, draw_count}
 use Rattle.acct_words.specs.Views.{Start, Chunk, Body, View}
 use Rattle.acct_words.specs.declared.rule.Said.{Said}
 use Rattle.acct_words.specs.Places.{number_word, limit_word}
@@ -31,87 +31,111 @@ use Rattle.acct_words.proofs.AccountLemmas.{claims_move}
 use Rattle.acct_words.proofs.KeptLemmas.{IsStep, step_legal, step_kept, good_longer}
 use Rattle.acct_words.proofs.StepLemmas.{steps_more}
 
--- a load, which may change the token's own view
+-- a step that leaves its word as it is, begins nothing and draws no number
+pub record IsQuiet (act : StepKind) : Type 0 where
+  pub begins : size_begun act ≡ 0
+  pub draws : draw_count act ≡ 0
+  pub reaches : (n : ℕ) → reached act n ≡ 0
+
+-- a load is one
+pub quiet_load : IsQuiet LoadWord
+quiet_load = record { begins = refl; draws = refl; reaches = λ n. refl }
+
+-- and so is the forgetting of a chunk
+pub quiet_forget : (size : ℕ) → IsQuiet (ForgetChunk size)
+quiet_forget size = record { begins = refl; draws = refl; reaches = λ n. refl }
+
+-- such a step, which may change the token's own view
 module _ (start : Start) (s : State Said View) (homes : List (option.Option Said)) (id : ℕ) (v w : View) (k : IsSoundTable start s)
-    (at : get_elem? s.views id ≡ some v) (i : ℕ) where
+    (at : get_elem? s.views id ≡ some v) (i : ℕ) (act : StepKind) where
   abbrev e : Entry
-  e = entry (length k.history) i LoadWord (slice_index s.words i)
+  e = entry (length k.history) i act (slice_index s.words i)
 
   -- what it owes
   pub record IsLoad : Type 1 where
+    pub quiet : IsQuiet act
     pub claims : SameClaims (its_charges v) (its_charges w)
     pub made : (f : Entry → ℕ) → of_view (made f) w ≡ of_view (made f) v + f e
     pub bytes : of_view bytes_left w ≤ of_view bytes_left v
     pub turns : of_view turns_left w ≤ of_view turns_left v
-    pub sizes : of_view chunk_sizes w ≤ of_view chunk_sizes v
+    pub sizes : of_view chunk_sizes w + size_forgotten act ≤ of_view chunk_sizes v
     pub numbers : (m : ℕ) → of_view (numbered m) w ≤ of_view (numbered m) v
     pub good : IsGoodView (k.history ++ e ∷ []) w
 
   -- it is a step
-  pub load_step : IsLoad → IsStep start s homes id v w k at i (slice_index s.words i) LoadWord
+  pub load_step : IsLoad → IsStep start s homes id v w k at i (slice_index s.words i) act
   load_step c = record {
     lawful = rw (set-get_or s.words i 0) (claims_move (rows_of start.tree 0 s.words) s.views id v w at c.claims k.accounts);
     limits = λ m h. ap (λ (l : List ℕ). slice_index l (limit_word m)) (set-get_or s.words i 0);
     next = (let q : slice_index (set s.words i (slice_index s.words i)) number_word ≡ slice_index s.words number_word =
-        ap (λ (l : List ℕ). slice_index l number_word) (set-get_or s.words i 0) in omega arith);
-    bounded = omega arith;
+        ap (λ (l : List ℕ). slice_index l number_word) (set-get_or s.words i 0) in let z = c.quiet.draws in omega arith);
+    bounded = (let z = c.quiet.reaches (slice_index s.words i) in omega arith);
     made = c.made;
-    bytes = (let p = c.bytes in omega arith);
-    turns = (let p = c.turns in omega arith);
+    bytes = (let p = c.bytes in let z = c.quiet.begins in omega arith);
+    turns = (let p = c.turns in let z = c.quiet.draws in omega arith);
     sizes = (let p = c.sizes in omega arith);
     numbers = λ m. (let p = c.numbers m in omega arith);
-    fresh = λ m ne. zero_cond (slice_index s.words i == m);
+    fresh = λ m ne. zero_cond (slice_index s.words i == m) (draw_count act) c.quiet.draws;
     good = c.good;
   }
     where
-      zero_cond : (b : Bool) → ◌≡◌ {A = ℕ} (cond b 0 0) 0
-      zero_cond true = refl
-      zero_cond false = refl
+      zero_cond : (b : Bool) (x : ℕ) → x ≡ 0 → cond b x 0 ≡ 0
+      zero_cond true x z = z
+      zero_cond false x z = refl
 
 -- it keeps the rule
 pub load_kept : (start : Start) (s : State Said View) (homes : List (option.Option Said)) (id : ℕ) (v w : View) (k : IsSoundTable start s)
-    (at : get_elem? s.views id ≡ some v) (i : ℕ) → IsLoad start s homes id v w k at i
+    (at : get_elem? s.views id ≡ some v) (i : ℕ) (act : StepKind) → IsLoad start s homes id v w k at i act
     → IsSoundTable start (record { words = set s.words i (slice_index s.words i); homes = homes; views = set s.views id w })
-load_kept start s homes id v w k at i c = step_kept start s homes id v w k at i (slice_index s.words i) LoadWord
-    (load_step start s homes id v w k at i c)
+load_kept start s homes id v w k at i act c = step_kept start s homes id v w k at i (slice_index s.words i) act
+    (load_step start s homes id v w k at i act c)
 
 -- and what it tells of the history
 pub known_after : (start : Start) (s : State Said View) (homes : List (option.Option Said)) (id : ℕ) (v w : View)
-    (k : IsSoundTable start s) (at : get_elem? s.views id ≡ some v) (i : ℕ) → IsLoad start s homes id v w k at i → start ≡ w.start →
-    KnowsHistory w
-known_after start s homes id v w k at i c same = record {
-  history = k.history ++ entry (length k.history) i LoadWord (slice_index s.words i) ∷ [];
-  legal = subst (λ (x : Start). IsHistory x (k.history ++ entry (length k.history) i LoadWord (slice_index s.words i) ∷ [])) same
-      (step_legal start s homes id v w k at i (slice_index s.words i) LoadWord (load_step start s homes id v w k at i c));
+    (k : IsSoundTable start s) (at : get_elem? s.views id ≡ some v) (i : ℕ) (act : StepKind) → IsLoad start s homes id v w k at i act →
+    start ≡ w.start → KnowsHistory w
+known_after start s homes id v w k at i act c same = record {
+  history = k.history ++ entry (length k.history) i act (slice_index s.words i) ∷ [];
+  legal = subst (λ (x : Start). IsHistory x (k.history ++ entry (length k.history) i act (slice_index s.words i) ∷ [])) same
+      (step_legal start s homes id v w k at i (slice_index s.words i) act (load_step start s homes id v w k at i act c));
   own_steps = c.good.0.own_steps;
   observed = c.good.0.observed;
 }
+
+-- a load that changes nothing
+pub reading_owed : (start : Start) (s : State Said View) (id : ℕ) (v : View) (k : IsSoundTable start s)
+    (at : get_elem? s.views id ≡ some v) (i : ℕ) →
+    IsLoad start s s.homes id v (stepping reading v (entry (length k.history) i LoadWord (slice_index s.words i))) k at i LoadWord
+reading_owed start s id v k at i =
+    let e = entry (length k.history) i LoadWord (slice_index s.words i) in
+    let old = k.tokens id v at in
+    record {
+      quiet = quiet_load;
+      claims = same_self (its_charges v);
+      made = λ f. (let q = sum_by_push f v.own.own_steps e in omega arith);
+      bytes = omega arith;
+      turns = omega arith;
+      sizes = omega arith;
+      numbers = λ m. omega arith;
+      good = (
+        record {
+          own_steps = steps_more k.history e v.own old.0 refl;
+          observed = (good_longer k.history e v.own old.0).observed;
+          chunks = old.0.chunks;
+        },
+        good_longer k.history e v.offer old.1,
+      );
+    }
 
 -- the limit of a level is read
 pub reads_allowed : (slots id : ℕ) (me : Me Said View) (m : ℕ) → m < length me.0.start.tree →
     Allows (IsSoundTable me.0.start) slots id me (limit_word m) (λ n. n) (Reads (step slots (limit_word m) 0 0 none) me)
 reads_allowed slots id me m there s k _ at _ =
-    let e = entry (length k.history) (limit_word m) LoadWord (slice_index s.words (limit_word m)) in
-    let w = stepping reading me.0 e in (
+    let w = stepping reading me.0 (entry (length k.history) (limit_word m) LoadWord (slice_index s.words (limit_word m))) in (
       w,
       keeps,
       tt,
-      load_kept me.0.start s s.homes id me.0 w k at (limit_word m) (record {
-        claims = same_self (its_charges me.0);
-        made = λ f. (let q = sum_by_push f me.0.own.own_steps e in omega arith);
-        bytes = omega arith;
-        turns = omega arith;
-        sizes = omega arith;
-        numbers = λ m. omega arith;
-        good = (let old = k.tokens id me.0 at in (
-          record {
-            own_steps = steps_more k.history e me.0.own old.0 refl;
-            observed = (good_longer k.history e me.0.own old.0).observed;
-            chunks = old.0.chunks;
-          },
-          good_longer k.history e me.0.offer old.1,
-        ));
-      }),
+      load_kept me.0.start s s.homes id me.0 w k at (limit_word m) LoadWord (reading_owed me.0.start s id me.0 k at (limit_word m)),
       (m, refl, (length k.history, refl), refl, k.layout.limits m there),
     )
 
@@ -130,7 +154,8 @@ parts_allowed slots id i me k₀ chunks is none_offered s k _ at _ =
     (let p = ap (sum_by g) a in let q = ap (sum_by g) b in let r = ap (sum_by g) is in let t = ap (sum_by g) o in let u =
     sum_by-cons g k₀ chunks in omega arith) in
     let old = k.tokens id me.0 at in let its = subst (All IsGoodChunk) is old.0.chunks in
-    let owed : IsLoad me.0.start s s.homes id me.0 w k at i = record {
+    let owed : IsLoad me.0.start s s.homes id me.0 w k at i LoadWord = record {
+      quiet = quiet_load;
       claims = moved me.0 w is a b o;
       made = λ f. (let q = sum_by_push f me.0.own.own_steps e in let z = ap (made f) none_offered in omega arith);
       bytes = (let z = ap bytes_left none_offered in omega arith);
@@ -154,8 +179,8 @@ parts_allowed slots id i me k₀ chunks is none_offered s k _ at _ =
       w,
       keeps,
       tt,
-      load_kept me.0.start s s.homes id me.0 w k at i owed,
-      (length k.history, refl, known_after me.0.start s s.homes id me.0 w k at i owed refl),
+      load_kept me.0.start s s.homes id me.0 w k at i LoadWord owed,
+      (length k.history, refl, known_after me.0.start s s.homes id me.0 w k at i LoadWord owed refl),
     )
   where
     swapped : (xs ys : List Claim) → SameClaims ((xs ++ ys) ++ []) (ys ++ (xs ++ []))

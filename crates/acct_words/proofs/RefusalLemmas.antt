@@ -9,13 +9,13 @@ use Rattle.mem_model.specs.WorstCase.{worst_case}
 use Rattle.acct_core.specs.declared.level_step.LevelStep.{LevelStep}
 use Rattle.acct_core.specs.Phases.{is_past}
 use Rattle.acct_words.specs.Entries.{StepKind, Entry, InHistory, begun, reached}
-use Rattle.acct_words.specs.Entries.StepKind.{LoadWord, DrawChunkNumber, BeginCharge, AddHeld, SubtractHeld}
+use Rattle.acct_words.specs.Entries.StepKind.{LoadWord, DrawChunkNumber, BeginCharge, AddHeld, SubtractHeld, ForgetChunk}
 use Rattle.acct_words.specs.declared.fixed.Fixed.{Fixed}
 use Rattle.acct_words.specs.Views.{View}
-use Rattle.acct_words.specs.Rule.{reservations, IsBounded, KnowsHistory}
+use Rattle.acct_words.specs.Rule.{reservations, IsBounded, KnowsHistory, KnowsWorstCase}
 use Rattle.acct_words.specs.Climbs.{Shows, amount_of, refusal_of, full_at}
 use Rattle.acct_words.specs.Climbs.Shows.{none, more}
-use Rattle.acct_words.specs.Charges.{draw_entry, still_entry, ViewRefuses, ViewWithinWorstCase}
+use Rattle.acct_words.specs.Charges.{draw_entry, forget_entry, ViewRefuses}
 
 -- what holds of all holds of the one at a place
 all_there : {A : Type 0} (P : A → Type 0) (xs : List A) (i : ℕ) (x : A) → All P xs → get_elem? xs i ≡ some x → P x
@@ -47,6 +47,7 @@ reached_is (AddHeld size) found amount e = ap (λ (o : Option ℕ). found + or_z
 reached_is LoadWord found amount e = absurd cc
 reached_is DrawChunkNumber found amount e = absurd cc
 reached_is (SubtractHeld size) found amount e = absurd cc
+reached_is (ForgetChunk size) found amount e = absurd cc
 
 module _ (tree : List Fixed) (history : List Entry) (bounded : All (IsBounded tree history) history) where
   abbrev IsWithin : LevelStep → Type 0
@@ -79,7 +80,8 @@ module _ (tree : List Fixed) (history : List Entry) (bounded : All (IsBounded tr
       by false later g = later g
 
 -- a refused charge
-pub refused_within : (at size : ℕ) (v w : View) (full : Full) → ViewRefuses at size v w full → KnowsHistory w → ViewWithinWorstCase w full
+pub refused_within : (at size : ℕ) (v w : View) (full : Full) → ViewRefuses at size v w full → KnowsHistory w →
+    KnowsWorstCase w (full.held + full.amount)
 refused_within at size v w full r k = record {
   known = k;
   bound = refusal_within w.start.tree k.history k.legal.bounded at r.steps full
@@ -90,7 +92,7 @@ refused_within at size v w full r k = record {
     its_entries =
         let P = InHistory k.history in
         let all : List Entry =
-        draw_entry r.draw_name r.number ∷ (r.entries ++ (r.taken_back ++ still_entry r.last_name r.last_found ∷ [])) in
-        All-left P r.entries (r.taken_back ++ still_entry r.last_name r.last_found ∷ []) (All-tail P (draw_entry r.draw_name r.number)
-        (r.entries ++ (r.taken_back ++ still_entry r.last_name r.last_found ∷ []))
+        draw_entry r.draw_name r.number ∷ (r.entries ++ (r.taken_back ++ forget_entry r.last_name size r.last_found ∷ [])) in
+        All-left P r.entries (r.taken_back ++ forget_entry r.last_name size r.last_found ∷ []) (All-tail P (draw_entry r.draw_name r.number)
+        (r.entries ++ (r.taken_back ++ forget_entry r.last_name size r.last_found ∷ []))
         (All-right P v.own.own_steps all (subst (λ (x : View). All P x.own.own_steps) r.token k.own_steps)))

@@ -86,7 +86,7 @@ module _ (slots id : ℕ) (me : Me Said View) (m size : ℕ) (k₀ : Chunk) (chu
   chunks_after : w.own.chunks ≡ k₁ ∷ chunks
   chunks_after = ap (first_chunk (λ (k : Chunk). record { number = k.number; size = size; charges = c ∷ [] })) is
 
-  begin_addition : IsAddition me.0.start s s.homes id me.0 w k at m size (BeginCharge size) there (λ n. refl) refl
+  begin_addition : IsAddition me.0.start s s.homes id me.0 w k at m size (BeginCharge size) there (λ n. refl) refl refl
   begin_addition = record {
     lawful = begin_moves me.0.start.tree s.words s.views id me.0 w at k.layout.limits k.layout.wide m size there false
         (charges_of chunks ++ charges_of me.0.offer.chunks) some_size small
@@ -123,14 +123,14 @@ begins_allowed slots id me m size k₀ chunks is empty some_size small paid ther
       v,
       keeps,
       tt,
-      addition_kept me.0.start s s.homes id me.0 v k at m size (BeginCharge size) there (λ n. refl) refl b,
+      addition_kept me.0.start s s.homes id me.0 v k at m size (BeginCharge size) there (λ n. refl) refl refl b,
       (
         m,
         refl,
         (length k.history, refl),
         refl,
         addition_small me.0.start s s.homes id me.0 v k at m size (BeginCharge size) there
-            (λ n. refl) refl b,
+            (λ n. refl) refl refl b,
       ),
     )
 
@@ -183,7 +183,7 @@ module _ (slots id : ℕ) (me : Me Said View) (n size m amount : ℕ) (forced : 
         (All-tail (λ (x : Claim). size_of x.phase ≤ k₀.size) before rest q);
   }
 
-  rise_addition : IsAddition me.0.start s s.homes id me.0 risen_view k at m amount (AddHeld amount) level_there (λ n. refl) refl
+  rise_addition : IsAddition me.0.start s s.homes id me.0 risen_view k at m amount (AddHeld amount) level_there (λ n. refl) refl refl
   rise_addition = record {
     lawful = rise_moves me.0.start.tree s.words s.views id me.0 risen_view at k.layout.limits k.layout.wide m amount level_there n size
         forced steps all_rest same_before_it
@@ -217,11 +217,11 @@ rises_allowed slots id me n size m amount forced steps k₀ chunks rest is up s 
       v,
       keeps,
       tt,
-      addition_kept me.0.start s s.homes id me.0 v k at m amount (AddHeld amount) there (λ n. refl) refl b,
+      addition_kept me.0.start s s.homes id me.0 v k at m amount (AddHeld amount) there (λ n. refl) refl refl b,
       (
         (length k.history, refl),
         refl,
         addition_small me.0.start s s.homes id me.0 v k at m amount (AddHeld amount) there
-            (λ n. refl) refl b,
+            (λ n. refl) refl refl b,
       ),
     )

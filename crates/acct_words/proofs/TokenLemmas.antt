@@ -16,20 +16,20 @@ use Rattle.acct_core.specs.FixedTrees.{CanTurnRound}
 use Rattle.acct_words.specs.declared.budget.Budget.{Budget}
 use Rattle.acct_words.specs.declared.fixed.Fixed.{Fixed}
 use Rattle.acct_words.specs.declared.rule.Said.{Said}
-use Rattle.acct_words.specs.Entries.{Entry}
-use Rattle.acct_words.specs.Entries.StepKind.{LoadWord}
+use Rattle.acct_words.specs.Entries.{Entry, StepKind}
+use Rattle.acct_words.specs.Entries.StepKind.{LoadWord, ForgetChunk}
 use Rattle.acct_words.specs.Views.{Chunk, View}
 use Rattle.acct_words.specs.Places.{still_word, held_word}
 use Rattle.acct_words.specs.Bodies.{nothing, both}
 use Rattle.acct_words.specs.Moves.{behind, to_front, first_chunk, reading, parting}
-use Rattle.acct_words.specs.Plays.{Steps, entry, stepping}
+use Rattle.acct_words.specs.Plays.{Steps, entry, stepping, first_size}
 use Rattle.acct_words.specs.Calls.{HasEmptyChunk, TurnsBack}
 use Rattle.acct_words.specs.Climbs.{IsForced, refusal_of, full_at}
 use Rattle.acct_words.specs.Falls.{IsReleased, rest_of, released}
-use Rattle.acct_words.specs.Charges.{draw_entry, still_entry, ViewCharges, ViewRefuses}
+use Rattle.acct_words.specs.Charges.{draw_entry, still_entry, ViewCharges, ViewRefuses, forget_entry}
 use Rattle.acct_words.specs.Tokens.{AccountsTable, History, CallerToken, ChunkToken, history_of, is_charged, without, charges_in}
 use Rattle.acct_words.specs.Tokens.{charged_in, IsHeldAs, IsChargeOf, HasOneChunk}
-use Rattle.acct_words.specs.CallHistories.{StaysWithinLimit, HasCharged, HasBeenRefused, HasForced, HasDischarged, TakesIn}
+use Rattle.acct_words.specs.CallHistories.{StaysWithinLimit, HasCharged, HasBeenRefused, HasForced, HasDischarged, TakesIn, HasLoadedHeld}
 
 -- what is shown of a view's tree and history is shown of the caller token that has the view, and of the table
 pub of_caller : (P : List Fixed → History → Type 0) (id : TableId) (v : View) (budget : Budget) (token : CallerToken)
@@ -116,8 +116,9 @@ charged_history at size v w number new h = record {
   drew = record { word = refl; kind = refl; found = refl };
   climb = h.climb;
   shows = h.shows;
+  begins = h.begins;
   within = all_within h.steps h.within;
-  paused = record { word = refl; kind = refl };
+  paused = record { word = refl; kind_is = refl };
   made = record { own = ap (λ (y : View). y.own.own_steps) h.token; observed = ap (λ (y : View). y.own.observed) h.token };
 }
 
@@ -129,15 +130,27 @@ refused_history at size v w full h = record {
   draw = draw_entry h.draw_name h.number;
   up = h.entries;
   down = h.taken_back;
-  pause = still_entry h.last_name h.last_found;
+  pause = forget_entry h.last_name size h.last_found;
   steps = h.steps;
   drew = record { word = refl; kind = refl; found = refl };
   climb = h.climb;
   shows = h.shows;
+  begins = h.begins;
   refusal = h.refusal;
   descent = h.descent;
-  paused = record { word = refl; kind = refl };
+  forgot = record { word = refl; kind_is = refl };
   made = record { own = ap (λ (y : View). y.own.own_steps) h.token; observed = ap (λ (y : View). y.own.observed) h.token };
+}
+
+-- a load of what an allocator holds
+pub loaded_history : (at found : ℕ) (v w : View) → Steps LoadWord reading (held_word at) found v w →
+    HasLoadedHeld at found (history_of v) (history_of w)
+loaded_history at found v w s = record {
+  load = entry s.0 (held_word at) LoadWord found;
+  word = refl;
+  kind = refl;
+  returned = refl;
+  made = record { own = ap (λ (y : View). y.own.own_steps) s.1; observed = ap (λ (y : View). y.own.observed) s.1 };
 }
 
 -- a force
@@ -149,6 +162,7 @@ forced_history at size v w full answer steps h f a = record {
   steps = steps;
   climb = h.climbed.climb;
   shows = h.climbed.shows;
+  begins = h.climbed.begins;
   answer = a ∙ ap (λ (o : Option Full). is_none o) f ∙ refusal_none at steps;
   made = record { own = ap (λ (y : View). y.own.own_steps) h.climbed.view; observed = ap (λ (y : View). y.own.observed) h.climbed.view };
 }
@@ -267,13 +281,13 @@ module _ (at : ℕ) (me : Me Said View) (number size : ℕ) (one : HasOneChunk m
     }
 
 -- what a token is after it took in another
-pub joined_history : (v w x : View) (found : ℕ) → w.offer ≡ nothing → Steps LoadWord reading still_word found (both v w) x →
-    TakesIn (history_of v) (history_of w) (history_of x)
-joined_history v w x found whole s = record {
-  pause = entry s.0 still_word LoadWord found;
-  paused = record { word = refl; kind = refl };
+pub joined_history : (kind : StepKind) (v w x : View) (found : ℕ) → w.offer ≡ nothing →
+    Steps kind reading still_word found (both v w) x → TakesIn kind (history_of v) (history_of w) (history_of x)
+joined_history kind v w x found whole s = record {
+  pause = entry s.0 still_word kind found;
+  paused = record { word = refl; kind_is = refl };
   own = ap (λ (y : View). y.own.own_steps) s.1 ∙ together v.own.own_steps w.own.own_steps (w.offer.own_steps)
-      (entry s.0 still_word LoadWord found ∷ []) (ap (λ (b : _). b.own_steps) whole);
+      (entry s.0 still_word kind found ∷ []) (ap (λ (b : _). b.own_steps) whole);
   observed = ap (λ (y : View). y.own.observed) s.1 ∙ ap (λ (l : List Entry). v.own.observed ++ (w.own.observed ++ l))
       (ap (λ (b : _). b.observed) whole)
       ∙ ap (λ (l : List Entry). v.own.observed ++ l) (append-nil w.own.observed);
@@ -283,17 +297,24 @@ joined_history v w x found whole s = record {
     together a b c d e = ap (λ (l : List Entry). (a ++ (b ++ l)) ++ d) e ∙ ap (λ (l : List Entry). (a ++ l) ++ d) (append-nil b)
         ∙ append_assoc a b d
 
--- the same where the chunk that came with it is forgotten
-pub retired_history : (v w x : View) (found : ℕ) → w.offer ≡ nothing → Steps LoadWord parting still_word found (both v w) x →
-    TakesIn (history_of v) (history_of w) (history_of x)
-retired_history v w x found whole s =
-    let h = joined_history v w (stepping reading (both v w) (entry s.0 still_word LoadWord found)) found whole (s.0, refl) in
-    record {
+-- the same where the chunk that came with it, of this size, is forgotten
+pub retired_history : (v w x : View) (found size : ℕ) → w.offer ≡ nothing → first_size (both v w).own.chunks ≡ size →
+    Steps (ForgetChunk (first_size (both v w).own.chunks)) parting still_word found (both v w) x →
+    TakesIn (ForgetChunk size) (history_of v) (history_of w) (history_of x)
+retired_history v w x found size whole is s =
+    let kind = ForgetChunk (first_size (both v w).own.chunks) in
+    let h = joined_history kind v w (stepping reading (both v w) (entry s.0 still_word kind found)) found whole (s.0, refl) in
+    subst (λ (n : ℕ). TakesIn (ForgetChunk n) (history_of v) (history_of w) (history_of x)) is (record {
       pause = h.pause;
       paused = h.paused;
       own = ap (λ (y : View). y.own.own_steps) s.1 ∙ h.own;
       observed = ap (λ (y : View). y.own.observed) s.1 ∙ h.observed;
-    }
+    })
+
+-- the size of the chunk that comes with a token
+pub joined_size : (v : View) (other : Me Said View) (number size : ℕ) → v.own.chunks ≡ [] → HasOneChunk other number size →
+    first_size (both v other.0).own.chunks ≡ size
+joined_size v other number size none one = ap first_size (λ j. none j ++ (one.chunk j ++ (one.whole j).chunks))
 
 -- a token with that of a chunk that is charged nowhere
 pub joined_empty : (v : View) (other : Me Said View) (number size : ℕ) → v.own.chunks ≡ [] → HasOneChunk other number size →

@@ -1,13 +1,13 @@
 -- What the history of a caller shows of each call.
-use Rattle.std.specs.Prelude.{◌≡◌, ℕ, ◌+◌, ◌≤◌, Bool, not, List, [], ◌∷◌, ◌++◌, map, All, Some, None}
+use Rattle.std.specs.Prelude.{◌≡◌, ℕ, ◌+◌, ◌≤◌, Bool, not, List, [], ◌∷◌, ◌++◌, map, All, Some, None, sum_by}
 use Rattle.mem_num.specs.declared.full.Full.{Full}
 use Rattle.mem_model.specs.WorstCase.{worst_case}
 use Rattle.acct_core.specs.declared.level_step.LevelStep.{LevelStep}
 use Rattle.acct_core.specs.Phases.{any_past}
 use Rattle.acct_words.specs.declared.fixed.Fixed.{Fixed}
-use Rattle.acct_words.specs.Entries.{Entry, InHistory, begun}
-use Rattle.acct_words.specs.Entries.StepKind.{LoadWord, DrawChunkNumber}
-use Rattle.acct_words.specs.Places.{still_word, number_word}
+use Rattle.acct_words.specs.Entries.{StepKind, Entry, InHistory, begun}
+use Rattle.acct_words.specs.Entries.StepKind.{LoadWord, DrawChunkNumber, ForgetChunk}
+use Rattle.acct_words.specs.Places.{still_word, number_word, held_word}
 use Rattle.acct_words.specs.Views.{Start}
 use Rattle.acct_words.specs.Rule.{IsHistory, reservations}
 use Rattle.acct_words.specs.Climbs.{Climbs, Shows, refusal_of}
@@ -25,10 +25,10 @@ pub record IsDraw (number : ℕ) (entry : Entry) : Type 0 where
   pub kind : entry.kind ≡ DrawChunkNumber
   pub found : entry.found ≡ number
 
--- an entry loads the word that never changes
-pub record IsPause (entry : Entry) : Type 0 where
+-- an entry of this kind loads the word that never changes
+pub record IsPause (kind : StepKind) (entry : Entry) : Type 0 where
   pub word : entry.word ≡ still_word
-  pub kind : entry.kind ≡ LoadWord
+  pub kind_is : entry.kind ≡ kind
 
 -- what a step led to is within the limit that was read after it
 abbrev pub StaysWithinLimit : LevelStep → Type 0
@@ -44,12 +44,13 @@ pub record HasCharged (tree : List Fixed) (at size number : ℕ) (old new : Hist
   pub drew : IsDraw number draw
   pub climb : Climbs tree at size steps None
   pub shows : Shows up steps
+  pub begins : sum_by begun up ≡ size
   pub within : All StaysWithinLimit steps
-  pub paused : IsPause pause
+  pub paused : IsPause LoadWord pause
   pub made : Makes (draw ∷ (up ++ pause ∷ [])) old new
 
--- A charge was refused. The token drew a number, went up all levels, and took that back by one release; the refusal has what its own step
--- found at the lowest level that went past its limit
+-- A charge was refused. The token drew a number, went up all levels, took that back by one release, and forgot the chunk; the refusal has
+-- what its own step found at the lowest level that went past its limit
 pub record HasBeenRefused (tree : List Fixed) (at size : ℕ) (old new : History) (full : Full) : Type 0 where
   pub number : ℕ
   pub draw : Entry
@@ -60,19 +61,20 @@ pub record HasBeenRefused (tree : List Fixed) (at size : ℕ) (old new : History
   pub drew : IsDraw number draw
   pub climb : Climbs tree at size steps None
   pub shows : Shows up steps
+  pub begins : sum_by begun up ≡ size
   pub refusal : refusal_of at steps ≡ Some full
   pub descent : Descends tree at size down None
-  pub paused : IsPause pause
+  pub forgot : IsPause (ForgetChunk size) pause
   pub made : Makes (draw ∷ (up ++ (down ++ pause ∷ []))) old new
 
--- there is a history of all steps that the table can have, in which these steps stand, and the numbers of the refusal are within the worst
--- case of the sizes that were begun in it and of all reservations
-pub record IsWithinWorstCase (start : Start) (history : History) (full : Full) : Type 0 where
+-- there is a history of all steps that the table can have, in which these steps stand, and so many bytes are within the worst case of the
+-- sizes that were begun in it and of all reservations
+pub record IsWithinWorstCase (start : Start) (history : History) (bytes : ℕ) : Type 0 where
   pub steps : List Entry
   pub legal : IsHistory start steps
   pub own : All (InHistory steps) history.own
   pub observed : All (InHistory steps) history.observed
-  pub bound : full.held + full.amount ≤ worst_case (map begun steps) (reservations start.tree)
+  pub bound : bytes ≤ worst_case (map begun steps) (reservations start.tree)
 
 -- A size was forced onto an allocator: the token went up the levels and took nothing back; and this says whether all stayed within limits
 pub record HasForced (tree : List Fixed) (at size : ℕ) (old new : History) (within : Bool) : Type 0 where
@@ -80,6 +82,7 @@ pub record HasForced (tree : List Fixed) (at size : ℕ) (old new : History) (wi
   pub steps : List LevelStep
   pub climb : Climbs tree at size steps None
   pub shows : Shows up steps
+  pub begins : sum_by begun up ≡ 0
   pub answer : within ≡ not (any_past steps)
   pub made : Makes up old new
 
@@ -89,10 +92,18 @@ pub record HasDischarged (tree : List Fixed) (at size : ℕ) (old new : History)
   pub descent : Descends tree at size down None
   pub made : Makes down old new
 
--- a token took in another, whose steps are its own from now on, and was shown what that one was shown
-pub record TakesIn (old other new : History) : Type 0 where
+-- the token loaded what an allocator holds, and found this
+pub record HasLoadedHeld (at found : ℕ) (old new : History) : Type 0 where
+  pub load : Entry
+  pub word : load.word ≡ held_word at
+  pub kind : load.kind ≡ LoadWord
+  pub returned : load.found ≡ found
+  pub made : Makes (load ∷ []) old new
+
+-- a token took in another by a load of this kind; that one's steps are its own from now on, and it was shown what that one was shown
+pub record TakesIn (kind : StepKind) (old other new : History) : Type 0 where
   pub pause : Entry
-  pub paused : IsPause pause
+  pub paused : IsPause kind pause
   pub own : new.own ≡ old.own ++ (other.own ++ pause ∷ [])
   pub observed : new.observed ≡ old.observed ++ other.observed
 

@@ -1,5 +1,6 @@
 -- A request's way up the levels, as its token's own steps show it.
-use Rattle.std.specs.Prelude.{◌≡◌, ℕ, suc, ◌+◌, ◌-◌, ◌<◌, ◌==◌, Bool, true, false, if◌then◌else◌, List, [], ◌∷◌, ◌++◌, length, Option}
+use Rattle.std.specs.Prelude.{◌≡◌, ℕ, suc, ◌+◌, ◌-◌, ◌<◌, ◌==◌, Bool, true, false, if◌then◌else◌, List, [], ◌∷◌, ◌++◌, length, sum_by}
+use Rattle.std.specs.Prelude.{Option, Some, None}
 use Rattle.std.specs.Prelude.{Some, None}
 use Rattle.mem_num.specs.declared.full.Full.{Full}
 use Rattle.mem_model.specs.Reservation.{beyond_reservation}
@@ -7,8 +8,8 @@ use Rattle.acct_core.specs.declared.level_step.LevelStep.{LevelStep}
 use Rattle.acct_core.specs.Claims.{Claim, claim_at}
 use Rattle.acct_core.specs.Effects.{passed, goes_on, step_at}
 use Rattle.acct_core.specs.Phases.{is_past}
-use Rattle.acct_words.specs.Entries.{StepKind, Entry}
-use Rattle.acct_words.specs.Entries.StepKind.{LoadWord, DrawChunkNumber, BeginCharge, AddHeld, SubtractHeld}
+use Rattle.acct_words.specs.Entries.{StepKind, Entry, begun}
+use Rattle.acct_words.specs.Entries.StepKind.{LoadWord, DrawChunkNumber, BeginCharge, AddHeld, SubtractHeld, ForgetChunk}
 use Rattle.acct_words.specs.declared.fixed.Fixed.{Fixed}
 use Rattle.acct_words.specs.Views.{Chunk, View}
 use Rattle.acct_words.specs.Places.{held_word, limit_word}
@@ -39,6 +40,7 @@ amount_of DrawChunkNumber = None
 amount_of (BeginCharge size) = Some size
 amount_of (AddHeld amount) = Some amount
 amount_of (SubtractHeld amount) = None
+amount_of (ForgetChunk size) = None
 
 -- an addition to a held word, and the load of the limit after it, are this step
 pub record IsLevel (step : LevelStep) (addition limit : Entry) : Type 0 where
@@ -98,6 +100,8 @@ pub record HasClimbed (at size : ℕ) (forced : Bool) (chunk : Chunk) (rest : Li
   pub climb : Climbs old.start.tree at size steps next
   pub entries : List Entry
   pub shows : Shows entries steps
+  -- a charge begins with its whole size, and a force begins nothing
+  pub begins : sum_by begun entries ≡ (if forced then 0 else size)
   pub view : new ≡ standing old entries bytes turns (charged_as chunk (claim_at at (goes_on next size forced steps) ∷ rest) ∷ others)
 
 -- what an addition at a level made of a view, with the load of the limit after it

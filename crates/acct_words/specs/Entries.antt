@@ -3,13 +3,15 @@ use Rattle.std.specs.Prelude.{◌≡◌, ℕ, ◌+◌, ◌==◌, if◌then◌els
 use mathlib.Core.Option.{some}
 use lib.ListN.{get_elem?}
 
--- What a step does to its word; amounts and sizes are in bytes. A charge begins by adding its whole size at its allocator
+-- What a step does to its word; amounts and sizes are in bytes. A charge begins by adding its whole size at its allocator; a token that
+-- gives up a chunk of some size, which is charged nowhere, does so at a load
 pub data StepKind : Type 0 where
   LoadWord : StepKind
   DrawChunkNumber : StepKind
   BeginCharge : (size : ℕ) → StepKind
   AddHeld : (amount : ℕ) → StepKind
   SubtractHeld : (amount : ℕ) → StepKind
+  ForgetChunk : (size : ℕ) → StepKind
 
 -- one atomic step of a caller: its name, which is its place among all steps of the table, its word, and what the word returned to it
 pub record Entry : Type 0 where
@@ -22,6 +24,11 @@ pub record Entry : Type 0 where
 abbrev pub size_begun : StepKind → ℕ
 size_begun (BeginCharge size) = size
 size_begun _ = 0
+
+-- the size of the chunk that a step forgets
+abbrev pub size_forgotten : StepKind → ℕ
+size_forgotten (ForgetChunk size) = size
+size_forgotten _ = 0
 
 -- what an addition to a held number leads to; 0 for any other step
 abbrev pub reached : StepKind → ℕ → ℕ
@@ -37,6 +44,10 @@ draw_count _ = 0
 -- the size of the charge that an entry begins
 abbrev pub begun : Entry → ℕ
 begun entry = size_begun entry.kind
+
+-- the size of the chunk that an entry forgets
+abbrev pub forgotten : Entry → ℕ
+forgotten entry = size_forgotten entry.kind
 
 -- one for an entry that draws
 abbrev pub drawn : Entry → ℕ

@@ -13,3 +13,4 @@ pub mod Charges
 pub mod Openings
 pub mod Tokens
 pub mod CallHistories
+pub mod Returns

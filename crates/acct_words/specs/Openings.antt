@@ -1,12 +1,15 @@
 -- What a table is opened with.
-use Rattle.std.specs.Prelude.{◌≡◌, ℕ, zero, suc, ◌+◌, ◌<◌, ◌≤◌, List, length, drop, sum, sum_by, slice_index, All}
+use Rattle.std.specs.Prelude.{◌≡◌, ℕ, zero, suc, ◌+◌, ◌<◌, ◌≤◌, false, List, [], ◌∷◌, length, drop, sum, sum_by, slice_index, All}
+use Rattle.std.specs.Option.{option_map}
 use Rattle.mem_num.specs.declared.bounds.TheConstants.{MOST_ALLOCATORS, MAX_RESERVATION}
+use Rattle.mem_model.specs.declared.tree_node.TreeNode.{TreeNode}
+use Rattle.mem_model.specs.Held.{held_of}
 use Rattle.acct_core.specs.Balance.{child_count}
 use Rattle.acct_words.specs.declared.budget.Budget.{Budget}
 use Rattle.acct_words.specs.declared.budget.TheConstants.{MOST_BYTES, MOST_TURNS}
 use Rattle.acct_words.specs.declared.fixed.Fixed.{Fixed}
 use Rattle.acct_words.specs.Places.{number_word, held_word, limit_word, word_count}
-use Rattle.acct_words.specs.Rows.{node, rows_of}
+use Rattle.acct_words.specs.Rows.{node, parent_of, rows_of}
 use Rattle.acct_words.specs.Rule.{reservations}
 
 -- a reservation is within the limit, and no larger than the largest one
@@ -25,6 +28,21 @@ pub record IsFixedTree (tree : List Fixed) : Type 0 where
   pub root : ((node tree 0).parent.0 ≡ 0) × ((node tree 0).reservation ≡ 0)
   pub parents : ComeAfterParents tree
   pub within : All ReservesWithinLimit tree
+
+-- the allocators of a given tree, of which the first has this number
+abbrev pub given_nodes : ℕ → List Fixed → List TreeNode
+given_nodes number [] = []
+given_nodes number (fixed ∷ tree) = record {
+  number = record { 0 = number };
+  parent = option_map (λ parent. record { 0 = parent }) (parent_of number fixed);
+  reservation = fixed.reservation;
+  limit = fixed.limit;
+  closed = false;
+} ∷ given_nodes (suc number) tree
+
+-- what an allocator of a given tree holds where nothing is charged: what its children reserve
+abbrev pub held_uncharged : List Fixed → ℕ → ℕ
+held_uncharged tree number = held_of (given_nodes 0 tree) [] number
 
 -- how much may be asked for at most
 pub record IsWithinBudget (budget : Budget) : Type 0 where

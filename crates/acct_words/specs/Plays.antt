@@ -1,18 +1,19 @@
 -- What each kind of step tells its caller.
-use Rattle.std.specs.Prelude.{◌≡◌, ℕ, ◌+◌, ◌^◌, ◌<◌, ◌≤◌}
+use Rattle.std.specs.Prelude.{◌≡◌, ℕ, ◌+◌, ◌^◌, ◌<◌, ◌≤◌, List, [], ◌∷◌, sum_by}
 use Rattle.acct_words.specs.declared.budget.TheConstants.{MOST_BYTES}
 use Rattle.mem_num.specs.declared.bounds.TheConstants.{MOST_NUMBERS}
 use Rattle.atomic_table.specs.Table.{Me}
 use Rattle.atomic_table.specs.Table as table
-use Rattle.acct_words.specs.Entries.{StepKind, Entry}
-use Rattle.acct_words.specs.Entries.StepKind.{LoadWord, DrawChunkNumber, BeginCharge, AddHeld, SubtractHeld}
+use Rattle.acct_words.specs.Entries.{StepKind, Entry, begun, forgotten}
+use Rattle.acct_words.specs.Entries.StepKind.{LoadWord, DrawChunkNumber, BeginCharge, AddHeld, SubtractHeld, ForgetChunk}
 use Rattle.acct_words.specs.declared.rule.Said.{Said}
-use Rattle.acct_words.specs.Views.{Body, View}
+use Rattle.acct_words.specs.Views.{Chunk, Body, View}
 use mathlib.Core.Option as option
 use mathlib.Core.Option.{some, none}
 use Rattle.acct_words.specs.Places.{held_word, limit_word}
 use Rattle.acct_words.specs.Rows.{node}
-use Rattle.acct_words.specs.Rule.{KnowsHistory}
+use Rattle.acct_words.specs.Rule.{KnowsHistory, KnowsWorstCase}
+use Rattle.acct_words.specs.Openings.{held_uncharged}
 use Rattle.acct_words.specs.Moves.{drawing, beginning, forcing, rising, reading, parting, parted, falling, turning, paying, paid}
 
 -- a step of this name
@@ -26,6 +27,23 @@ stepping make old step = record { start = old.start; own = make old.own step; of
 -- a step on a word, which returned this, made this of the token's own body
 abbrev pub Steps : StepKind → (Body → Entry → Body) → ℕ → ℕ → View → View → Type 0
 Steps act make word found old new = (name : ℕ) × (new ≡ stepping make old (entry name word act found))
+
+-- the size of the first chunk
+abbrev pub first_size : List Chunk → ℕ
+first_size [] = 0
+first_size (chunk ∷ chunks) = chunk.size
+
+-- a body has begun all that was begun, and has forgotten all of it
+pub record IsAllGivenBack (bytes : ℕ) (body : Body) : Type 0 where
+  pub alone : body.bytes + sum_by begun body.own_steps ≡ bytes
+  pub given_back : sum_by forgotten body.own_steps ≡ sum_by begun body.own_steps
+
+-- What a load of a held number tells: it is within the worst case; and it is what the tree holds uncharged, where the token alone has begun
+-- what was begun, and has given all of it back
+pub record TellsHeld (level found : ℕ) (old new : View) : Type 0 where
+  pub small : found < 2 ^ 63
+  pub bound : KnowsWorstCase new found
+  pub uncharged : IsAllGivenBack old.start.bytes old.own → found ≡ held_uncharged old.start.tree level
 
 module _ {S : Type 0} where
   -- a number is drawn, which fits in 32 bits
@@ -56,6 +74,11 @@ module _ {S : Type 0} where
       (after.1 ≡ me.1) ×
       (found ≡ (node me.0.start.tree level).limit)
 
+  -- what a level holds is read
+  abbrev pub Looks : table.Step S → Me S View → ℕ → Me S View → Type 0
+  Looks asked me found after = Steps LoadWord reading asked.word found me.0 after.0 × (after.1 ≡ me.1) ×
+      ((level : ℕ) → asked.word ≡ held_word level → TellsHeld level found me.0 after.0)
+
   -- the first chunk is offered to the next split
   abbrev pub Parts : table.Step S → Me S View → ℕ → Me S View → Type 0
   Parts asked me found after =
@@ -81,7 +104,8 @@ module _ {S : Type 0} where
 
   -- the first chunk, which has no charge, is forgotten
   abbrev pub Forgets : table.Step S → Me S View → ℕ → Me S View → Type 0
-  Forgets asked me found after = Steps LoadWord parting asked.word found me.0 after.0 × (after.1 ≡ me.1) × KnowsHistory after.0
+  Forgets asked me found after = Steps (ForgetChunk (first_size me.0.own.chunks)) parting asked.word found me.0 after.0 ×
+      (after.1 ≡ me.1) × KnowsHistory after.0
 
   -- the budget is small
   abbrev pub Counts : table.Step S → Me S View → ℕ → Me S View → Type 0

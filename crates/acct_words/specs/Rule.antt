@@ -8,7 +8,7 @@ use Rattle.mem_num.specs.declared.bounds.TheConstants.{MOST_ALLOCATORS, MOST_NUM
 use Rattle.mem_model.specs.WorstCase.{worst_case}
 use Rattle.acct_core.specs.Phases.{size_of}
 use Rattle.acct_core.specs.Lawful.{IsLawfulFixedTree}
-use Rattle.acct_words.specs.Entries.{Entry, reached, draw_count, begun, drawn, drew, InHistory}
+use Rattle.acct_words.specs.Entries.{Entry, reached, draw_count, begun, forgotten, drawn, drew, InHistory}
 use Rattle.acct_words.specs.declared.fixed.Fixed.{Fixed}
 use Rattle.acct_words.specs.Views.{Start, Chunk, Body, View}
 use Rattle.acct_words.specs.declared.fixed.Opening.{Opening}
@@ -76,10 +76,11 @@ pub record ShareHistory (start : Start) (history : List Entry) (views : List Vie
   pub legal : IsHistory start history
 
 -- what is left of the budget, with what was spent of it, is no more than there was at the opening; chunks have the sizes that were begun
+-- and not forgotten
 pub record KeepsBudget (start : Start) (history : List Entry) (views : List View) : Type 0 where
   pub bytes : total bytes_left views + sum_by begun history ≤ start.bytes
   pub turns : total turns_left views + sum_by drawn history ≤ start.turns
-  pub sizes : total chunk_sizes views ≤ sum_by begun history
+  pub sizes : total chunk_sizes views + sum_by forgotten history ≤ sum_by begun history
 
 -- the numbers of chunks were drawn, each for one chunk at most, and those from the next number on were not
 pub record AreDrawn (history : List Entry) (words : List ℕ) (views : List View) : Type 0 where
@@ -120,3 +121,8 @@ pub record KnowsHistory (view : View) : Type 0 where
   pub legal : IsHistory view.start history
   pub own_steps : All (InHistory history) view.own.own_steps
   pub observed : All (InHistory history) view.own.observed
+
+-- so many bytes are at most the worst case of all that was asked for in a history in which the view's steps stand
+pub record KnowsWorstCase (view : View) (bytes : ℕ) : Type 0 where
+  pub known : KnowsHistory view
+  pub bound : bytes ≤ worst_case (map begun known.history) (reservations view.start.tree)

@@ -1,9 +1,10 @@
 //! Charges.
-ghost use Rattle.std.specs.Prelude.{◌≡◌, ℕ, ◌^◌, ◌<◌, ◌≤◌, [], length, IfOk, IfErr};
+ghost use Rattle.std.specs.Prelude.{◌≡◌, ℕ, ◌+◌, ◌^◌, ◌<◌, ◌≤◌, [], length, IfOk, IfErr};
 ghost use Rattle.mem_num.specs.declared.bounds.TheConstants.{MAX_RESERVATION, MOST_NUMBERS};
 ghost use Rattle.acct_words.specs.Bodies.{nothing};
 ghost use Rattle.acct_words.specs.Calls.{IsOf};
-ghost use Rattle.acct_words.specs.Charges.{ViewCharges, ViewRefuses, ViewWithinWorstCase};
+ghost use Rattle.acct_words.specs.Charges.{ViewCharges, ViewRefuses};
+ghost use Rattle.acct_words.specs.Rule.{KnowsWorstCase};
 
 use crate::climb::climb;
 use crate::fixed::Fixed;
@@ -30,7 +31,7 @@ pub fn charge(
     ensures ok { IfOk result (λ r. ViewCharges at size token.old.me.0 token.new.me.0 r.0 r.1.me.0) }
     ensures chunk { IfOk result (λ r. (r.1.table_id ≡ token.old.table_id) × (r.1.me.1 ≡ []) × (1 ≤ r.0)
         × (r.0 < MOST_NUMBERS)) }
-    ensures bound { IfErr result (λ full. ViewWithinWorstCase token.new.me.0 full) }
+    ensures bound { IfErr result (λ full. KnowsWorstCase token.new.me.0 (full.held + full.amount)) }
     ensures full { IfErr result (λ full. ViewRefuses at size token.old.me.0 token.new.me.0 full) }
 {
     let number = draw(words, token);

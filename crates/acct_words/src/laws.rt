@@ -1,9 +1,13 @@
 //! What follows from the rule of the table.
-ghost use Rattle.std.specs.Prelude.{ℕ, ◌^◌, ◌<◌, ◌≤◌, length, slice_index, sum_by};
+ghost use Rattle.std.specs.Prelude.{◌≡◌, ℕ, ◌+◌, ◌^◌, ◌<◌, ◌≤◌, length, slice_index, sum_by};
 ghost use Rattle.atomic_table.specs.Table.{State};
 ghost use Rattle.acct_core.specs.Phases.{pending_subtraction};
 ghost use Rattle.acct_words.specs.Rows.{claims_of};
 ghost use Rattle.acct_words.specs.Views.{Start, View};
+ghost use Rattle.acct_words.specs.CallHistories.{HasBeenRefused};
+ghost use Rattle.acct_words.specs.Returns.{HasComeBack, HasGivenAllBack};
+ghost use Rattle.acct_words.specs.Tokens.{CallerToken};
+ghost use Rattle.mem_num.specs.declared.full.Full.{Full};
 ghost use Rattle.acct_words.specs.Places.{held_word};
 ghost use Rattle.acct_words.specs.Rule.{IsSoundTable};
 ghost use Rattle.acct_words.specs.declared.rule.Said.{Said};
@@ -16,4 +20,14 @@ pub fn held_words_stay_small()
     ensures covers { (start : Start) (state : State Said View) → IsSoundTable start state → (number : ℕ) →
         number < length start.tree → sum_by (λ claim. pending_subtraction number claim.phase) (claims_of state.views)
         ≤ slice_index state.words (held_word number) }
+{}
+
+/// A token that alone made charges, and gave all of them back, still has done so after one more that came back or was refused: so it
+/// finds what the tree holds uncharged, by `held`.
+pub fn charges_that_come_back_leave_nothing()
+    ensures charged { (start : Start) (at size : ℕ) (old new : CallerToken) → HasComeBack start at size old new →
+        HasGivenAllBack start old → HasGivenAllBack start new }
+    ensures refused { (start : Start) (at size : ℕ) (old new : CallerToken) (full : Full) →
+        HasBeenRefused start.tree at size old.history new.history full → new.budget.bytes + size ≡ old.budget.bytes →
+        HasGivenAllBack start old → HasGivenAllBack start new }
 {}

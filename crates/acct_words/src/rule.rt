@@ -81,6 +81,14 @@ impl Play<Said, Shown> for Reading {
     ghost then = { Reads };
 }
 
+pub struct Looking;
+
+impl Play<Said, Shown> for Looking {
+    ghost use Rattle.acct_words.specs.Plays.{Looks};
+
+    ghost then = { Looks };
+}
+
 pub struct Parting;
 
 impl Play<Said, Shown> for Parting {

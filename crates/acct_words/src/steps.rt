@@ -6,18 +6,18 @@ ghost use Rattle.acct_core.specs.Claims.{Claim};
 ghost use Rattle.acct_core.specs.declared.level_step.LevelStep.{LevelStep};
 ghost use Rattle.acct_core.specs.Phases.Phase.{Up};
 ghost use Rattle.acct_core.specs.Claims.{claim_at};
-ghost use Rattle.acct_words.specs.Entries.StepKind.{LoadWord, DrawChunkNumber, BeginCharge, AddHeld, SubtractHeld};
+ghost use Rattle.acct_words.specs.Entries.StepKind.{LoadWord, DrawChunkNumber, BeginCharge, AddHeld, SubtractHeld, ForgetChunk};
 ghost use Rattle.acct_words.specs.Calls.{IsOf, HasChunk, HasEmptyChunk, HasRoom, GoesUp, TurnsBack, GoesDown, HasParted};
 ghost use Rattle.acct_words.specs.Moves.{drawing, beginning, forcing, rising, reading, parting, falling, turning};
 ghost use Rattle.acct_words.specs.Places.{still_word, number_word, held_word, limit_word};
-ghost use Rattle.acct_words.specs.Plays.{Steps, entry, paying_view};
+ghost use Rattle.acct_words.specs.Plays.{Steps, TellsHeld, entry, first_size, paying_view};
 ghost use Rattle.acct_words.specs.Bodies.{nothing, left, right, both};
 ghost use Rattle.acct_words.specs.Rows.{node};
 ghost use Rattle.acct_words.specs.Rule.{KnowsHistory};
 
 use crate::rule::{
-    Beginning, Counters, Counting, Cut, Drawing, Falling, Forcing, Forgetting, Parting, Paying,
-    Reading, Rising, Said, Together, Turning,
+    Beginning, Counters, Counting, Cut, Drawing, Falling, Forcing, Forgetting, Looking, Parting,
+    Paying, Reading, Rising, Said, Together, Turning,
 };
 use crate::view::Shown;
 use atomic_table::Seat;
@@ -87,6 +87,17 @@ pub fn read_limit(words: &Counters, token: &mut Token, level: usize) -> u64
     words.load::<Reading>(token, 16 * level + 33)
 }
 
+/// Reads what a level holds.
+pub fn look(words: &Counters, token: &mut Token, level: usize) -> u64
+    requires table { IsOf words.now token.old }
+    requires level { level < length words.now.key.nodes.items }
+    ensures table { (token.new.table_id ≡ token.old.table_id) × (token.new.me.1 ≡ token.old.me.1) }
+    ensures view { Steps LoadWord reading (held_word level) result token.old.me.0 token.new.me.0 }
+    ensures tells { TellsHeld level result token.old.me.0 token.new.me.0 }
+{
+    words.load::<Looking>(token, 16 * level + 32)
+}
+
 /// Splits the first chunk off, with what it is charged.
 pub fn part(words: &Counters, token: &mut Token) -> Token
     requires table { IsOf words.now token.old }
@@ -132,7 +143,8 @@ pub fn forget(words: &Counters, token: &mut Token)
     requires table { IsOf words.now token.old }
     requires chunk { HasEmptyChunk token.old.me.0 }
     ensures table { (token.new.table_id ≡ token.old.table_id) × (token.new.me.1 ≡ token.old.me.1) }
-    ensures view { (found : ℕ) × Steps LoadWord parting still_word found token.old.me.0 token.new.me.0 }
+    ensures view { (found : ℕ) × Steps (ForgetChunk (first_size token.old.me.0.own.chunks)) parting still_word found
+        token.old.me.0 token.new.me.0 }
     ensures history { KnowsHistory token.new.me.0 }
 {
     words.load::<Forgetting>(token, 0);

@@ -1,16 +1,19 @@
 //! The accounts table, and its calls.
-ghost use Rattle.std.specs.Prelude.{◌≡◌, ◌+◌, ◌<◌, ◌≤◌, [], ◌∷◌, length, IfOk, IfErr, IsTrue};
+ghost use Rattle.std.specs.Prelude.{◌≡◌, ◌+◌, ◌^◌, ◌<◌, ◌≤◌, [], ◌∷◌, length, IfOk, IfErr, IsTrue};
 ghost use Rattle.mem_num.specs.declared.bounds.TheConstants.{LARGEST, MOST_NUMBERS, MOST_ALLOCATORS};
 ghost use Rattle.acct_words.specs.CallHistories.{
   HasBeenRefused,
   HasCharged,
   HasDischarged,
   HasForced,
+  HasLoadedHeld,
   IsWithinWorstCase,
   SplitsOff,
   TakesIn,
 };
-ghost use Rattle.acct_words.specs.Openings.{IsFixedTree, IsWithinBudget};
+ghost use Rattle.acct_words.specs.Entries.StepKind.{ForgetChunk, LoadWord};
+ghost use Rattle.acct_words.specs.Openings.{IsFixedTree, IsWithinBudget, held_uncharged};
+ghost use Rattle.acct_words.specs.Returns.{HasGivenAllBack};
 ghost use Rattle.acct_words.specs.Tokens.{IsElsewhere, is_charged, no_history, shown_history, without};
 
 use crate::budget::Budget;
@@ -19,7 +22,7 @@ use crate::fixed::{Fixed, Opening};
 use crate::opening::opening_words;
 use crate::pass::Pass;
 use crate::rule::{AccountsRule, Said, Together};
-use crate::steps::{forget, join, pay};
+use crate::steps::{forget, join, look, pay};
 use crate::view::Shown;
 use crate::{charge, force, release};
 use atomic_table::Table;
@@ -99,7 +102,8 @@ impl Words {
         ensures full { IfErr result (λ full.
             HasBeenRefused self.now.start.tree at.0 size pass.old.history pass.new.history full) }
         ensures past { IfErr result (λ full. full.limit < full.held + full.amount) }
-        ensures bound { IfErr result (λ full. IsWithinWorstCase self.now.start pass.new.history full) }
+        ensures bound { IfErr result (λ full.
+            IsWithinWorstCase self.now.start pass.new.history (full.held + full.amount)) }
     {
         let nodes = self.opening.nodes.as_slice();
         let charged = charge::charge(
@@ -163,12 +167,28 @@ impl Words {
         );
     }
 
+    /// What an allocator holds, by a load of its own: true at the moment of that load. Waits for nobody, and takes no memory.
+    pub fn held(&self, pass: &mut Pass, at: AllocId) -> u64
+        requires table { pass.old.table ≡ self.now }
+        requires at { at.0 < length self.now.start.tree }
+        ensures pass { (pass.new.table ≡ self.now) × (pass.new.budget ≡ pass.old.budget) }
+        ensures loaded { HasLoadedHeld at.0 result pass.old.history pass.new.history }
+        ensures small { result < 2 ^ 63 }
+        ensures bound { IsWithinWorstCase self.now.start pass.new.history result }
+
+        // One that made all requests, and gave all of them back, finds the reservations alone.
+        ensures uncharged { HasGivenAllBack self.now.start pass.old
+            → result ≡ held_uncharged self.now.start.tree at.0 }
+    {
+        look(&self.table.shared, &mut pass.token, at.0 as usize)
+    }
+
     /// Joins the token of a chunk that is charged nowhere into a caller token.
     pub fn retire(&self, pass: &mut Pass, seat: ChunkSeat)
         requires tables { (pass.old.table ≡ self.now) × (seat.table ≡ self.now) }
         requires bare { seat.charged ≡ [] }
         ensures pass { (pass.new.table ≡ self.now) × (pass.new.budget ≡ pass.old.budget) }
-        ensures history { TakesIn pass.old.history seat.history pass.new.history }
+        ensures history { TakesIn (ForgetChunk seat.size) pass.old.history seat.history pass.new.history }
     {
         let ChunkSeat { token, .. } = seat;
         self.table
@@ -203,7 +223,7 @@ impl Words {
         ensures pass { (pass.new.table ≡ self.now)
             × (pass.new.budget.bytes ≡ pass.old.budget.bytes + other.budget.bytes)
             × (pass.new.budget.turns ≡ pass.old.budget.turns + other.budget.turns) }
-        ensures history { TakesIn pass.old.history other.history pass.new.history }
+        ensures history { TakesIn LoadWord pass.old.history other.history pass.new.history }
     {
         let Pass { token, budget } = other;
         join(&self.table.shared, &mut pass.token, token);

@@ -41,13 +41,6 @@ fn open<R: Abort + AllocGlobal>(rt: &R, nodes: &[Fixed], budget: Budget) -> (Wor
     }
 }
 
-/// What the word of an allocator holds, read without a token.
-fn held(words: &Words, at: usize) -> u64
-    requires at { at < length words.now.start.tree }
-{
-    words.table.shared.peek(16 * at + 32)
-}
-
 /// Charges, where the budget is there.
 fn charge(
     rt: &impl Abort,
@@ -76,23 +69,23 @@ const AMPLE: Budget = Budget {
 fn a_reservation_covers_the_first_bytes(rt: HostRuntime) -> Result<(), Fail> {
     let nodes = two(MAX_LIMIT, 4096, MAX_LIMIT);
     let (words, mut pass) = open(&rt, &nodes, AMPLE);
-    assert_eq!(rt; held(&words, 0), 4096);
-    assert_eq!(rt; held(&words, 1), 0);
+    assert_eq!(rt; words.held(&mut pass, ROOT), 4096);
+    assert_eq!(rt; words.held(&mut pass, C), 0);
     let first = charge(&rt, &words, &mut pass, C, 2048);
     assert!(rt; first.is_ok());
-    assert_eq!(rt; held(&words, 0), 4096);
-    assert_eq!(rt; held(&words, 1), 2048);
+    assert_eq!(rt; words.held(&mut pass, ROOT), 4096);
+    assert_eq!(rt; words.held(&mut pass, C), 2048);
     let second = charge(&rt, &words, &mut pass, C, 4096);
-    assert_eq!(rt; held(&words, 0), 6144);
-    assert_eq!(rt; held(&words, 1), 6144);
+    assert_eq!(rt; words.held(&mut pass, ROOT), 6144);
+    assert_eq!(rt; words.held(&mut pass, C), 6144);
     let Ok(mut seat) = second else {
         panic!(rt; "refused");
     };
     assert_eq!(rt; seat.number(), 2);
     assert_eq!(rt; seat.size(), 4096);
     words.discharge(&mut seat, C);
-    assert_eq!(rt; held(&words, 0), 4096);
-    assert_eq!(rt; held(&words, 1), 2048);
+    assert_eq!(rt; words.held(&mut pass, ROOT), 4096);
+    assert_eq!(rt; words.held(&mut pass, C), 2048);
     words.retire(&mut pass, seat);
     assert_eq!(rt; pass.budget().turns, 98);
     assert_eq!(rt; pass.budget().bytes, (1 << 30) - 6144);
@@ -118,8 +111,8 @@ fn a_full_parent_refuses_and_all_is_taken_back(rt: HostRuntime) -> Result<(), Fa
             local: false
         }
     );
-    assert_eq!(rt; held(&words, 0), 1024);
-    assert_eq!(rt; held(&words, 1), 1024);
+    assert_eq!(rt; words.held(&mut pass, ROOT), 1024);
+    assert_eq!(rt; words.held(&mut pass, C), 1024);
     Ok(())
 }
 
@@ -142,8 +135,8 @@ fn a_full_allocator_refuses_its_own_request(rt: HostRuntime) -> Result<(), Fail>
             local: true
         }
     );
-    assert_eq!(rt; held(&words, 0), 1024);
-    assert_eq!(rt; held(&words, 1), 1024);
+    assert_eq!(rt; words.held(&mut pass, ROOT), 1024);
+    assert_eq!(rt; words.held(&mut pass, C), 1024);
     let Ok(seat) = charge(&rt, &words, &mut pass, ROOT, 2) else {
         panic!(rt; "refused");
     };
@@ -161,14 +154,14 @@ fn a_force_goes_past_limits_and_moves_the_charge(rt: HostRuntime) -> Result<(), 
     };
     let within = words.force(&mut seat, C);
     assert!(rt; !within);
-    assert_eq!(rt; held(&words, 0), 2048);
-    assert_eq!(rt; held(&words, 1), 1024);
+    assert_eq!(rt; words.held(&mut pass, ROOT), 2048);
+    assert_eq!(rt; words.held(&mut pass, C), 1024);
     words.discharge(&mut seat, ROOT);
-    assert_eq!(rt; held(&words, 0), 1024);
-    assert_eq!(rt; held(&words, 1), 1024);
+    assert_eq!(rt; words.held(&mut pass, ROOT), 1024);
+    assert_eq!(rt; words.held(&mut pass, C), 1024);
     words.discharge(&mut seat, C);
-    assert_eq!(rt; held(&words, 0), 0);
-    assert_eq!(rt; held(&words, 1), 0);
+    assert_eq!(rt; words.held(&mut pass, ROOT), 0);
+    assert_eq!(rt; words.held(&mut pass, C), 0);
     words.retire(&mut pass, seat);
     Ok(())
 }
@@ -238,12 +231,15 @@ fn two_callers_leave_held_numbers_as_they_were(rt: HostRuntime) -> Result<(), Fa
             turns: 10_000,
         };
         let (words, mut pass) = open(&rt, &nodes, budget);
-        let before = (held(&words, 0), held(&words, 1));
+        let before = (words.held(&mut pass, ROOT), words.held(&mut pass, C));
         let other = words.split_pass(&mut pass, half);
         let (mut pass, other) = in_two(&rt, &words, pass, other, C);
         words.join_pass(&mut pass, other);
         assert_eq!(rt; pass.budget().turns, 0);
-        assert_eq!(rt; (held(&words, 0), held(&words, 1)), before);
+        assert_eq!(rt;
+            (words.held(&mut pass, ROOT), words.held(&mut pass, C)),
+            before
+        );
         assert_eq!(rt; words.table.shared.peek(16), 20_001);
     }
     Ok(())

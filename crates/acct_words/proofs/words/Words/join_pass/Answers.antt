@@ -1,4 +1,5 @@
 use Rattle.std.proofs.Common.{subst}
+use Rattle.acct_words.specs.Entries.StepKind.{LoadWord}
 use Rattle.acct_words.specs.Tokens.{CallerToken, history_of}
 use Rattle.acct_words.specs.CallHistories.{TakesIn}
 use Rattle.acct_words.proofs.TokenLemmas.{joined_history}
@@ -7,6 +8,6 @@ use Rattle.acct_words.proofs.words.Words.join_pass.Goals as goal
 pub returns-clause-history : goal.returns-clause-history
 returns-clause-history c =
     let v = c.join.ensures.view in
-    subst (λ (p : CallerToken). TakesIn p.history c.args.other.history (history_of c.join.new.token.me.0)) c.pass.view_is
-    (subst (λ (p : CallerToken). TakesIn (history_of c.pass.inside.token.me.0) p.history (history_of c.join.new.token.me.0)) c.other.view_is
-    (joined_history c.pass.inside.token.me.0 c.other.inside.token.me.0 c.join.new.token.me.0 v.0 c.other.invariant.whole v.1))
+    subst (λ (p : CallerToken). TakesIn LoadWord p.history c.args.other.history (history_of c.join.new.token.me.0)) c.pass.view_is
+    (subst (λ (p : CallerToken). TakesIn LoadWord (history_of c.pass.inside.token.me.0) p.history (history_of c.join.new.token.me.0)) c.other.view_is
+    (joined_history LoadWord c.pass.inside.token.me.0 c.other.inside.token.me.0 c.join.new.token.me.0 v.0 c.other.invariant.whole v.1))

@@ -1,14 +1,14 @@
 use Rattle.std.proofs.Common.{arith, ap, ◌∙◌, sym, subst}
 use Rattle.acct_words.specs.Views.{View}
-use Rattle.acct_words.specs.Entries.StepKind.{LoadWord}
+use Rattle.acct_words.specs.Entries.StepKind.{ForgetChunk}
 use Rattle.acct_words.specs.Places.{still_word}
 use Rattle.acct_words.specs.Moves.{parting}
 use Rattle.acct_words.specs.Tokens.{AccountsTable, CallerToken, ChunkToken, history_of}
 use Rattle.acct_words.specs.CallHistories.{TakesIn}
 use Rattle.acct_words.specs.Calls.{HasEmptyChunk}
-use Rattle.acct_words.specs.Plays.{Steps}
+use Rattle.acct_words.specs.Plays.{Steps, first_size}
 use Rattle.acct_words.proofs.SplitLemmas.{joins}
-use Rattle.acct_words.proofs.TokenLemmas.{joined_empty, retired_history}
+use Rattle.acct_words.proofs.TokenLemmas.{joined_empty, joined_size, retired_history}
 use Rattle.acct_words.proofs.words.Words.retire.Goals as goal
 
 pub join_seat-requires : goal.join_seat-requires
@@ -30,8 +30,12 @@ forget-requires-clause-chunk c = subst HasEmptyChunk (sym (ap (λ (m : _). m.0) 
 pub returns-clause-history : goal.returns-clause-history
 returns-clause-history c =
     let v = c.forget.ensures.view in
-    subst (λ (p : CallerToken). TakesIn p.history c.args.seat.history (history_of c.forget.new.token.me.0)) c.pass.view_is
-    (subst (λ (p : ChunkToken). TakesIn (history_of c.pass.inside.token.me.0) p.history (history_of c.forget.new.token.me.0)) c.seat.view_is
-    (retired_history c.pass.inside.token.me.0 c.seat.inside.token.me.0 c.forget.new.token.me.0 v.0 c.seat.invariant.whole
-    (subst (λ (x : View). Steps LoadWord parting still_word v.0 x c.forget.new.token.me.0) (ap (λ (m : _). m.0) c.join_seat.ensures.2)
-    v.1)))
+    let old = c.pass.inside.token.me.0 in
+    let seat = c.seat.inside in
+    let new = c.forget.new.token.me.0 in
+    subst (λ (p : CallerToken). TakesIn (ForgetChunk c.args.seat.size) p.history c.args.seat.history (history_of new)) c.pass.view_is
+    (subst (λ (p : ChunkToken). TakesIn (ForgetChunk p.size) (history_of old) p.history (history_of new)) c.seat.view_is
+    (retired_history old seat.token.me.0 new v.0 seat.size c.seat.invariant.whole
+    (joined_size old seat.token.me seat.number seat.size c.pass.invariant.chunks c.seat.invariant)
+    (subst (λ (x : View). Steps (ForgetChunk (first_size x.own.chunks)) parting still_word v.0 x new)
+    (ap (λ (m : _). m.0) c.join_seat.ensures.2) v.1)))
