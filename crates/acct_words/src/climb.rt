@@ -43,13 +43,15 @@ pub fn refused_at(at: usize, level: usize, found: u64, amount: u64, limit: u64) 
     })
 }
 
-/// The first of two refusals.
-pub fn lower(first: Option<Full>, second: Option<Full>) -> Option<Full>
-    ensures { result ≡ first_of first second }
+/// Keeps the first of two refusals. Where there is no second one nothing is written: a loop over levels copies none.
+fn keep_first(full: &mut Option<Full>, refused: Option<Full>)
+    ensures { full.new ≡ first_of full.old refused }
 {
-    match first {
-        Some(full) => Some(full),
-        None => second,
+    if full.is_some() {
+        return;
+    }
+    if let Some(refusal) = refused {
+        *full = Some(refusal);
     }
 }
 
@@ -123,7 +125,7 @@ pub fn climb_on(
 {
     while let Some((level, amount)) = next {
         let (refused, further) = climb_level(words, nodes, token, at, level, amount);
-        full = lower(full, refused);
+        keep_first(&mut full, refused);
         next = further;
     }
     full

@@ -28,16 +28,16 @@ loop-next-preserved c =
     let w = c.loop-next.token.me.0 in
     let x = c.climb_level-refused.new.token.me.0 in
     let tree = ap (λ (y : _). y.tree) (i.start ∙ t.start) ∙ sym c.requires.nodes in
-    let one : GoesOn c.args.at w x full c.lower-full.result c.loop-next.next c.climb_level-refused.result.1
-    = subst (λ (o : _). GoesOn c.args.at w x full c.lower-full.result o c.climb_level-refused.result.1) (sym c.in-Some.is)
-    (level_goes_on n c.args.at c.in-Some.level c.in-Some.amount e.0 w x full c.climb_level-refused.result.0 c.lower-full.result
-    c.climb_level-refused.result.1 tree e.1 e.2 e.3 c.lower-full.ensures) in
+    let one : GoesOn c.args.at w x full c.keep_first.new.full c.loop-next.next c.climb_level-refused.result.1
+    = subst (λ (o : _). GoesOn c.args.at w x full c.keep_first.new.full o c.climb_level-refused.result.1) (sym c.in-Some.is)
+    (level_goes_on n c.args.at c.in-Some.level c.in-Some.amount e.0 w x full c.climb_level-refused.result.0 c.keep_first.new.full
+    c.climb_level-refused.result.1 tree e.1 e.2 e.3 c.keep_first.ensures) in
     record {
       table = (c.climb_level-refused.ensures.table.0 ∙ i.table.0, c.climb_level-refused.ensures.table.1 ∙ i.table.1);
       start = ap (λ (y : _). y.start) e.1.view ∙ i.start;
       inside = subst (IsInTree n) (sym e.3) (next_in_tree n c.in-Some.level c.in-Some.amount e.0 (subst (λ (l : _). HasParentsBefore l)
           (sym c.requires.nodes) t.parents) (subst (IsInTree n) c.in-Some.is i.inside));
-      going = going_on c.args.at w x full c.lower-full.result c.loop-next.next c.climb_level-refused.result.1 one i.going;
-      went = goes_on_then c.args.at c.args.token.now.me.0 w x c.args.full full c.lower-full.result c.args.next c.loop-next.next
+      going = going_on c.args.at w x full c.keep_first.new.full c.loop-next.next c.climb_level-refused.result.1 one i.going;
+      went = goes_on_then c.args.at c.args.token.now.me.0 w x c.args.full full c.keep_first.new.full c.args.next c.loop-next.next
           c.climb_level-refused.result.1 i.went one;
     }
