@@ -361,8 +361,8 @@ forgets_allowed slots id i me k₀ chunks is empty s k _ at _ =
       made = λ f. (let q = sum_by_push f me.0.own.own_steps e in omega arith);
       bytes = omega arith;
       turns = omega arith;
-      sizes = (let f = ap first_size is in let p = ap (sum_by (λ (k : Chunk). k.size)) a in let q = ap (sum_by (λ (k : Chunk). k.size)) is in let r =
-          sum_by-cons (λ (k : Chunk). k.size) k₀ chunks in omega arith);
+      sizes = (let g : Chunk → ℕ = λ k. k.size in let f = ap first_size is in let p = ap (sum_by g) a in let q = ap (sum_by g) is in
+          let r = sum_by-cons g k₀ chunks in omega arith);
       numbers = λ m. (let g : Chunk → ℕ = λ k. cond (k.number == m) 1 0 in let p = ap (sum_by g) a in let q = ap (sum_by g) is in let r =
           sum_by-cons g k₀ chunks in omega arith);
       good = (

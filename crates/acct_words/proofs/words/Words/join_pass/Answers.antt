@@ -8,6 +8,9 @@ use Rattle.acct_words.proofs.words.Words.join_pass.Goals as goal
 pub returns-clause-history : goal.returns-clause-history
 returns-clause-history c =
     let v = c.join.ensures.view in
-    subst (λ (p : CallerToken). TakesIn LoadWord p.history c.args.other.history (history_of c.join.new.token.me.0)) c.pass.view_is
-    (subst (λ (p : CallerToken). TakesIn LoadWord (history_of c.pass.inside.token.me.0) p.history (history_of c.join.new.token.me.0)) c.other.view_is
-    (joined_history LoadWord c.pass.inside.token.me.0 c.other.inside.token.me.0 c.join.new.token.me.0 v.0 c.other.invariant.whole v.1))
+    let old = c.pass.inside.token.me.0 in
+    let other = c.other.inside.token.me.0 in
+    let new = c.join.new.token.me.0 in
+    subst (λ (p : CallerToken). TakesIn LoadWord p.history c.args.other.history (history_of new)) c.pass.view_is
+    (subst (λ (p : CallerToken). TakesIn LoadWord (history_of old) p.history (history_of new)) c.other.view_is
+    (joined_history LoadWord old other new v.0 c.other.invariant.whole v.1))
