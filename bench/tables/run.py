@@ -3,10 +3,10 @@
 
     run.py [--times N] [--rows N] [--reader PROGRAM]
 
-The reader is a small program over the crate row_text (`reader.txt`). It is proved and built in a temporary folder first, which takes
-some minutes; --reader takes one that was built so before, and --keep PROGRAM keeps it. The peer is compiled there too. The programs
-take turns; each figure is the least of N runs (default 9), and in brackets their median: processor time in user and system mode. For
-memory it is the least peak of resident memory.
+The reader is a small program over the crates row_text and batch_vec (`reader.txt`, and `answers.txt`, which its proof needs). It is
+proved and built in a temporary folder first, which takes some minutes; --reader takes one that was built so before, and --keep PROGRAM
+keeps it. The peer is compiled there too. The programs take turns; each figure is the least of N runs (default 9), and in brackets their
+median: processor time in user and system mode. For memory it is the least peak of resident memory.
 """
 
 import argparse
@@ -22,15 +22,22 @@ HERE = os.path.dirname(os.path.abspath(__file__))
 TOP = os.path.dirname(os.path.dirname(HERE))
 QUERY = os.path.join(os.path.dirname(HERE), "query")
 # The crates that the reader stands on, as in crates.txt.
-CRATES = ["mem_num:", "query_model: mem_num", "row_text: mem_num query_model csv itoa", "table_reader: row_text csv"]
+CRATES = [
+    "mem_num:",
+    "mem_buf: mem_num",
+    "query_model: mem_num",
+    "row_text: mem_num query_model csv itoa memchr",
+    "batch_vec: mem_num mem_buf query_model row_text csv",
+    "table_reader: mem_num mem_buf query_model row_text batch_vec csv",
+]
 NARROW = ["key:text", "a:int", "b:int"]
 WIDE = ["id:int", "city:text", "day:text", "a:int", "b:int", "c:int"]
 # Each table: what it is, its file, a plan of its columns for the peer, and its columns for the reader.
 TABLES = [
     ("narrow", "narrow.csv", "narrow-group.toml", NARROW),
     ("narrow, with a quote in its last row", "narrow-late.csv", "narrow-group.toml", NARROW),
-    ("wide, without quotes", "wide-plain.csv", "wide-group.toml", WIDE),
-    ("wide, with quotes in one row of fifty", "wide.csv", "wide-group.toml", WIDE),
+    ("wide, without quotes", "wide-plain.csv", "wide-1024.toml", WIDE),
+    ("wide, with quotes in one row of fifty", "wide.csv", "wide-1024.toml", WIDE),
 ]
 
 
@@ -44,13 +51,13 @@ def reading(reader, peer, table, plan, columns):
 
 
 def storing(reader, peer, table, plan, columns):
-    """Reads a table and stores its rows in buffers, batch by batch: no proved program does so yet."""
-    return None
+    """The same, and stores the rows in buffers, batch by batch, and gives each batch back."""
+    return {"reader": [reader, "stored", table, *columns], "peer": [peer, "stored", plan, table]}
 
 
 def reading_back(reader, peer, table, plan, columns):
-    """The same, and reads each batch back from its buffers: no proved program does so yet."""
-    return None
+    """The same, and reads each batch back from its buffers in between."""
+    return {"reader": [reader, "back", table, *columns], "peer": [peer, "back", plan, table]}
 
 
 STAGES = [("Reading rows", reading), ("And storing them", storing), ("And reading them back", reading_back)]
@@ -72,7 +79,8 @@ def run_once(command):
 def measure(commands, times, before):
     """For each command the least time, the median and the least peak; the commands take turns."""
     runs = [{name: run_once(before + command) for name, command in commands.items()} for _ in range(times)]
-    if len({turn[name][2] for turn in runs for name in commands}) != 1:
+    # (how many rows; the peer adds what it read back)
+    if len({turn[name][2].split()[0] for turn in runs for name in commands}) != 1:
         sys.exit("the programs print different numbers of rows")
     figures = {}
     for name in commands:
@@ -81,17 +89,23 @@ def measure(commands, times, before):
     return figures
 
 
+def seconds(figure):
+    return f"{figure[0]:.3f} ({figure[1]:.3f})" if figure else "-"
+
+
+def ratio(ours, theirs):
+    return f"{ours[0] / theirs[0]:.2f} ({ours[1] / theirs[1]:.2f})" if ours else "-"
+
+
 def print_stage(what, stage, programs, folder, times, before):
-    names = ["reader", "peer", "csv alone"]
     heads = ["Table", "reader, s", "peer, s", "ratio", "csv alone, s", "by the peer's", "reader, MB", "peer, MB"]
     print(f"\n{what}\n\n| " + " | ".join(heads) + " |\n" + "|---" * len(heads) + "|")
     for table, file, plan, columns in TABLES:
         commands = stage(*programs, os.path.join(folder, file), os.path.join(folder, plan), columns)
         figures = measure(commands, times, before)
-        reader, peer, csv = (figures[name] for name in names)
-        seconds = [f"{least:.3f} ({median:.3f})" for least, median, _ in (reader, peer, csv)]
-        ratios = [f"{ours[0] / peer[0]:.2f} ({ours[1] / peer[1]:.2f})" for ours in (reader, csv)]
-        row = [table, seconds[0], seconds[1], ratios[0], seconds[2], ratios[1], f"{reader[2]:.1f}", f"{peer[2]:.1f}"]
+        reader, peer, csv = (figures.get(name) for name in ("reader", "peer", "csv alone"))
+        row = [table, seconds(reader), seconds(peer), ratio(reader, peer), seconds(csv), ratio(csv, peer)]
+        row += [f"{reader[2]:.1f}", f"{peer[2]:.1f}"]
         print("| " + " | ".join(row) + " |", flush=True)
 
 
@@ -107,6 +121,9 @@ def build_reader(folder):
     crate = os.path.join(top, "crates", "table_reader")
     os.makedirs(os.path.join(crate, "src"))
     shutil.copy(os.path.join(HERE, "reader.txt"), os.path.join(crate, "src", "main.rt"))
+    answers = os.path.join(crate, "proofs", "store", "Answers.antt")
+    os.makedirs(os.path.dirname(answers))
+    shutil.copy(os.path.join(HERE, "answers.txt"), answers)
     with open(os.path.join(top, "crates.txt"), "w", encoding="utf-8") as out:
         out.write("\n".join(CRATES) + "\n")
     print("the reader is proved and built, which takes some minutes ..", file=sys.stderr)
@@ -134,6 +151,8 @@ def write_tables(folder, rows):
     with open(os.path.join(folder, "narrow.csv"), "rb") as table, open(os.path.join(folder, "narrow-late.csv"), "wb") as out:
         shutil.copyfileobj(table, out)
         out.write(b'"k0",0,0\n')
+    with open(os.path.join(folder, "wide-group.toml")) as plan, open(os.path.join(folder, "wide-1024.toml"), "w") as out:
+        out.write(plan.read().replace("batch = 4096", "batch = 1024"))
     with open(os.path.join(folder, "wide.csv"), "rb") as table, open(os.path.join(folder, "wide-plain.csv"), "wb") as out:
         last = b""
         for line in table:
@@ -174,8 +193,7 @@ def main():
         before = first_words()
         describe(words.rows, words.times, before)
         for what, stage in STAGES:
-            if stage(reader, peer, "", "", []) is not None:
-                print_stage(what, stage, (reader, peer), folder, words.times, before)
+            print_stage(what, stage, (reader, peer), folder, words.times, before)
 
 
 if __name__ == "__main__":

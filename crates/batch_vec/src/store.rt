@@ -1,0 +1,56 @@
+//! Storing rows.
+ghost use Rattle.std.specs.Prelude.{◌≡◌, ◌≤◌, All, Err, IfOk};
+ghost use Rattle.mem_num.specs.declared.bounds.TheConstants.{LARGEST};
+ghost use Rattle.mem_num.specs.declared.full.Full.{Full as AnyFull};
+ghost use Rattle.mem_buf.specs.Answers.{IsPastLimit};
+ghost use Rattle.mem_buf.specs.Callers.{CanPay};
+ghost use Rattle.mem_buf.specs.Chain.{Runs};
+ghost use Rattle.query_model.specs.Buffers.{buffer_lengths};
+ghost use Rattle.batch_vec.specs.Batches.{IsStoreRows};
+
+use crate::batch::Batch;
+use crate::encoding::{RowBytes, encoded};
+use crate::refused::OpRefused;
+use mem_buf::{Memory, store_vecs};
+use mem_num::{AllocId, BufferRefused};
+use row_text::RowsSlice;
+use std::alloc::Global;
+
+/// Stores rows in buffers of an allocator, column by column, as the Arrow columnar format lays them out. Asks for two buffers a
+/// column, validity and data or offsets and texts, each as long as its bytes. Where one is refused, those before it are given back.
+pub fn store_rows<M: Memory>(
+    alloc: Global,
+    mem: &M,
+    token: &mut M::Token,
+    at: AllocId,
+    rows: &RowsSlice<'_>,
+) -> Result<Batch<M::Hold>, OpRefused>
+    requires pinned { 1 ≤ (M.model.view token.old).pins at.0 }
+    requires sized { All (λ length. length ≤ LARGEST) (buffer_lengths rows.now.kinds rows.now.rows) }
+    requires budget { CanPay (M.model.view token.old) at (buffer_lengths rows.now.kinds rows.now.rows) }
+
+    // The batch holds the rows.
+    ensures kinds { IfOk result (λ batch. batch.kinds ≡ rows.now.kinds) }
+    ensures rows { IfOk result (λ batch. batch.rows ≡ rows.now.rows) }
+
+    // Just these buffers were asked for, and a level that is full would have gone past its limit.
+    ensures calls { Runs M.model (IsStoreRows M.model.reference (M.model.view token.old) at
+        (buffer_lengths rows.now.kinds rows.now.rows) result) token.old token.new }
+    ensures full { (full : AnyFull) → result ≡ Err (OpRefused.Full full) → IsPastLimit (M.model.view token.old) full }
+{
+    let Ok(RowBytes { kinds, buffers }) = encoded(alloc, rows) else {
+        return Err(OpRefused::NoMemory);
+    };
+    let count = rows.len();
+    match store_vecs(alloc, mem, token, at, buffers) {
+        Ok(buffers) => Ok(Batch {
+            count,
+            kinds,
+            buffers,
+        }),
+        Err(BufferRefused::Full(full)) => Err(OpRefused::Full(full)),
+        Err(BufferRefused::TooLarge(_)) => Err(OpRefused::NoMemory),
+        Err(BufferRefused::Closed(_)) => Err(OpRefused::NoMemory),
+        Err(BufferRefused::NoMemory) => Err(OpRefused::NoMemory),
+    }
+}
