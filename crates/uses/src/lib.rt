@@ -2,6 +2,7 @@
 #![tactic(auto)]
 
 mod allocators;
+mod batches;
 mod memories;
 mod references;
 mod reports;
@@ -9,8 +10,9 @@ mod tables;
 mod words;
 
 pub use allocators::{ask, finish, open_operator, open_query};
+pub use batches::pass_through;
 pub use memories::{store_all, store_in_tree};
 pub use references::{hand_over, scan_and_filter};
 pub use reports::{is_own_report_lawful, name_operator};
 pub use tables::{read_again, write_anew};
-pub use words::{charge_for_a_while, move_charge};
+pub use words::{charge_for_a_while, held_after_a_while, move_charge};
