@@ -17,6 +17,9 @@ import tempfile
 
 HERE = os.path.dirname(os.path.abspath(__file__))
 TOP = os.path.dirname(os.path.dirname(HERE))
+sys.path.insert(0, os.path.dirname(HERE))
+import measuring
+
 CRATES = ["mem_num", "mem_model", "acct_core", "acct_words"]
 NAME = "accounts_rate"
 # What is charged, and how the programs are told: whether there are leaves, and how many allocators.
@@ -59,25 +62,16 @@ def build_program(folder):
     return program
 
 
-def compile_peer(folder):
-    program = os.path.join(folder, "peer")
-    source = os.path.join(HERE, "peer", "main.rs")
-    if subprocess.run(["rustc", "-O", "--edition", "2024", "-o", program, source], cwd=folder).returncode != 0:
-        sys.exit("the peer isn't compiled: nothing to measure beside")
-    return program
-
-
 def run_once(program, leaves, levels, threads, pairs):
     """One run: its processor time, and the time by its own clock, in nanoseconds. Each charge has to succeed."""
-    words = [str(word) for word in (leaves, levels, threads, pairs)]
-    child = subprocess.Popen([program, *words], stdin=subprocess.DEVNULL, stdout=subprocess.PIPE)
-    answer = child.stdout.read().split()
-    _, status, used = os.wait4(child.pid, 0)
-    child.returncode = os.waitstatus_to_exitcode(status)
-    child.stdout.close()
-    if child.returncode != 0 or len(answer) != 2 or int(answer[0]) != threads * pairs:
-        sys.exit(f"{program} {' '.join(words)}: status {child.returncode}, answers {answer}")
-    return (used.ru_utime + used.ru_stime) * 1e9, int(answer[1])
+    command = [program] + [str(word) for word in (leaves, levels, threads, pairs)]
+    with tempfile.TemporaryFile() as out:
+        seconds, _ = measuring.run_once(command, out)
+        out.seek(0)
+        answer = out.read().split()
+    if len(answer) != 2 or int(answer[0]) != threads * pairs:
+        sys.exit(f"{' '.join(command)}: answers {answer}")
+    return seconds * 1e9, int(answer[1])
 
 
 def table(programs, rows, times, pairs):
@@ -94,14 +88,6 @@ def table(programs, rows, times, pairs):
             print("| " + " | ".join(cells) + " |", flush=True)
 
 
-def describe(times, pairs):
-    with open("/proc/cpuinfo") as info:
-        models = {line.split(":", 1)[1].strip() for line in info if line.startswith("model name")}
-    print(f"{os.cpu_count()} cores, {', '.join(sorted(models)) or 'unknown processor'}")
-    print(subprocess.run(["rustc", "--version"], capture_output=True, text=True).stdout.strip())
-    print(f"{pairs:,} charges and releases a thread, least of {times} runs; load {os.getloadavg()[0]:.1f} at the start", flush=True)
-
-
 def main():
     parser = argparse.ArgumentParser(description="measures charges and releases on atomic words")
     parser.add_argument("--times", type=int, default=31, help="how many runs of each (default 31)")
@@ -111,8 +97,9 @@ def main():
     with tempfile.TemporaryDirectory() as temporary:
         folder = os.path.abspath(words.folder) if words.folder else temporary
         os.makedirs(folder, exist_ok=True)
-        programs = [build_program(folder), compile_peer(folder)]
-        describe(words.times, words.pairs)
+        programs = [build_program(folder), measuring.compile_peer(os.path.join(HERE, "peer", "main.rs"), folder)]
+        measuring.describe_machine()
+        print(f"{words.pairs:,} charges and releases a thread, least of {words.times} runs", flush=True)
         table(programs, CHAINS + LEAVES, words.times, words.pairs)
         print(f"\nload {os.getloadavg()[0]:.1f} at the end")
 

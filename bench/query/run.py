@@ -16,27 +16,11 @@ import tempfile
 from make_inputs import PLANS
 
 HERE = os.path.dirname(os.path.abspath(__file__))
+sys.path.insert(0, os.path.dirname(HERE))
+import measuring
+
 # Each stage does what the one before it does, and something more.
 STAGES = [("rows", "read"), ("stored", "and stored"), ("back", "and read back"), ("query", "the query")]
-
-
-def run_once(command, output):
-    """One run: its processor time in seconds, and its peak of resident memory in MB."""
-    with open(output, "wb") as out:
-        child = subprocess.Popen(command, stdin=subprocess.DEVNULL, stdout=out)
-        _, status, used = os.wait4(child.pid, 0)
-        child.returncode = os.waitstatus_to_exitcode(status)
-    if child.returncode != 0:
-        sys.exit(f"{' '.join(command)}: status {child.returncode}; it has no figures")
-    return used.ru_utime + used.ru_stime, used.ru_maxrss * 1024 / 1e6
-
-
-def compile_peer(folder):
-    program = os.path.join(folder, "peer")
-    source = os.path.join(HERE, "peer", "main.rs")
-    if subprocess.run(["rustc", "-O", "--edition", "2024", "-o", program, source], cwd=folder).returncode != 0:
-        sys.exit("the peer isn't compiled: nothing to measure")
-    return program
 
 
 def check(peer):
@@ -56,17 +40,18 @@ def main():
     parser.add_argument("--rows", type=int, default=1_000_000, help="rows of a table (default 1000000)")
     words = parser.parse_args()
     with tempfile.TemporaryDirectory() as folder:
-        peer = compile_peer(folder)
+        peer = measuring.compile_peer(os.path.join(HERE, "peer", "main.rs"), folder)
         check(peer)
         # (in a process of its own, whose memory a child's peak doesn't count)
         maker = [sys.executable, os.path.join(HERE, "make_inputs.py"), folder, "--rows", str(words.rows)]
         subprocess.run(maker, check=True)
+        measuring.describe_machine()
         print(f"{words.rows:,} rows, least of {words.times} runs\n")
         heads = ["Plan"] + [f"{what}, s" for _, what in STAGES] + ["the query, MB"]
         print("| " + " | ".join(heads) + " |\n" + "|---" * len(heads) + "|")
         for plan in PLANS:
             files = [os.path.join(folder, f"{plan}.toml"), os.path.join(folder, f"{plan.split('-')[0]}.csv")]
-            runs = [[run_once([peer, stage, *files], os.devnull) for stage, _ in STAGES] for _ in range(words.times)]
+            runs = [[measuring.run_once([peer, stage, *files], subprocess.DEVNULL) for stage, _ in STAGES] for _ in range(words.times)]
             least = [[min(figures) for figures in zip(*of_one)] for of_one in zip(*runs)]
             cells = [f"{seconds:.3f}" for seconds, _ in least] + [f"{least[-1][1]:.1f}"]
             print("| " + " | ".join([plan] + cells) + " |", flush=True)

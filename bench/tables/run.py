@@ -11,7 +11,6 @@ median: processor time in user and system mode. For memory it is the least peak 
 
 import argparse
 import os
-import resource
 import shutil
 import statistics
 import subprocess
@@ -21,6 +20,9 @@ import tempfile
 HERE = os.path.dirname(os.path.abspath(__file__))
 TOP = os.path.dirname(os.path.dirname(HERE))
 QUERY = os.path.join(os.path.dirname(HERE), "query")
+sys.path.insert(0, os.path.dirname(HERE))
+import measuring
+
 # The crates that the reader stands on, as in crates.txt.
 CRATES = [
     "mem_num:",
@@ -66,14 +68,9 @@ STAGES = [("Reading rows", reading), ("And storing them", storing), ("And readin
 def run_once(command):
     """One run: its processor time in seconds, its peak of resident memory in MB, and what it printed."""
     with tempfile.TemporaryFile() as out:
-        child = subprocess.Popen(command, stdin=subprocess.DEVNULL, stdout=out)
-        _, status, used = os.wait4(child.pid, 0)
-        child.returncode = os.waitstatus_to_exitcode(status)
+        seconds, peak = measuring.run_once(command, out)
         out.seek(0)
-        printed = out.read()
-    if child.returncode != 0:
-        sys.exit(f"{' '.join(command)}: status {child.returncode}; it has no figures")
-    return used.ru_utime + used.ru_stime, used.ru_maxrss * 1024 / 1e6, printed
+        return seconds, peak, out.read()
 
 
 def measure(commands, times, before):
@@ -136,14 +133,6 @@ def build_reader(folder):
     return os.path.join(crate, "out", "table_reader")
 
 
-def compile_peer(folder):
-    program = os.path.join(folder, "peer")
-    source = os.path.join(QUERY, "peer", "main.rs")
-    if subprocess.run(["rustc", "-O", "--edition", "2024", "-o", program, source], cwd=folder).returncode != 0:
-        sys.exit("the peer isn't compiled: nothing to measure beside")
-    return program
-
-
 def write_tables(folder, rows):
     # (in a process of its own, whose memory a child's peak doesn't count)
     maker = [sys.executable, os.path.join(QUERY, "make_inputs.py"), folder, "--rows", str(rows)]
@@ -167,16 +156,6 @@ def first_words():
     return before if allowed else []
 
 
-def describe(rows, times, before):
-    with open("/proc/cpuinfo", encoding="utf-8") as info:
-        models = {line.split(":", 1)[1].strip() for line in info if line.startswith("model name")}
-    print(f"{os.cpu_count()} cores, {', '.join(sorted(models)) or 'unknown processor'}, load {os.getloadavg()[0]:.0f}")
-    print(subprocess.run(["rustc", "--version"], capture_output=True, text=True).stdout.strip())
-    floor = resource.getrusage(resource.RUSAGE_SELF).ru_maxrss * 1024 / 1e6
-    print(f"{rows:,} rows, least of {times} runs (median in brackets){', by `chrt -f 10`' if before else ''}; "
-          f"a peak may count the {floor:.1f} MB of this script", flush=True)
-
-
 def main():
     parser = argparse.ArgumentParser(description="measures the proved reader of tables")
     parser.add_argument("--times", type=int, default=9, help="how many runs of each (default 9)")
@@ -185,13 +164,15 @@ def main():
     parser.add_argument("--keep", help="where the built reader is kept")
     words = parser.parse_args()
     with tempfile.TemporaryDirectory() as folder:
-        peer = compile_peer(folder)
+        peer = measuring.compile_peer(os.path.join(QUERY, "peer", "main.rs"), folder)
         reader = os.path.abspath(words.reader) if words.reader else build_reader(folder)
         if words.keep:
             shutil.copy(reader, words.keep)
         write_tables(folder, words.rows)
         before = first_words()
-        describe(words.rows, words.times, before)
+        measuring.describe_machine()
+        print(f"{words.rows:,} rows, least of {words.times} runs (median in brackets){', by `chrt -f 10`' if before else ''}; "
+              f"a peak may count the {measuring.own_peak():.1f} MB of this script", flush=True)
         for what, stage in STAGES:
             print_stage(what, stage, (reader, peer), folder, words.times, before)
 

@@ -12,13 +12,15 @@ compared byte by byte.
 import argparse
 import filecmp
 import os
-import resource
 import shutil
 import subprocess
 import sys
 import tempfile
 
 HERE = os.path.dirname(os.path.abspath(__file__))
+sys.path.insert(0, os.path.dirname(HERE))
+import measuring
+
 # Each input, by the words that make_trace.py is given for it.
 INPUTS = [
     ("an empty file", None),
@@ -30,14 +32,9 @@ INPUTS = [
 
 
 def run_once(command, trace, output):
-    """One run: its processor time in seconds, and its peak of resident memory in MB."""
+    """One run over a trace: its processor time in seconds, and its peak of resident memory in MB."""
     with open(output, "wb") as out:
-        child = subprocess.Popen(command + ["trace", trace], stdin=subprocess.DEVNULL, stdout=out)
-        _, status, used = os.wait4(child.pid, 0)
-        child.returncode = os.waitstatus_to_exitcode(status)
-    if child.returncode != 0:
-        sys.exit(f"{command[0]}: status {child.returncode}; it has no figures")
-    return used.ru_utime + used.ru_stime, used.ru_maxrss * 1024 / 1e6
+        return measuring.run_once(command + ["trace", trace], out)
 
 
 def measure(commands, trace, times):
@@ -83,19 +80,6 @@ def write_traces(folder, lines):
     return traces
 
 
-def compile_peer(folder):
-    """The peer as a command, or None where it can't be compiled."""
-    if shutil.which("rustc") is None:
-        print("no rustc here: the peer is left out")
-        return None
-    program = os.path.join(folder, "peer")
-    source = os.path.join(HERE, "peer", "main.rs")
-    if subprocess.run(["rustc", "-O", "--edition", "2021", "-o", program, source], cwd=folder).returncode != 0:
-        print("rustc failed: the peer is left out")
-        return None
-    return [program]
-
-
 def compare(folder, commands, traces):
     """Stops where the two programs print different bytes."""
     outputs = [os.path.join(folder, name) for name in ("program.out", "peer.out")]
@@ -105,17 +89,6 @@ def compare(folder, commands, traces):
         if not filecmp.cmp(*outputs, shallow=False):
             sys.exit(f"the two programs print different bytes on: {what}")
     print("\nboth programs print the same bytes on every input")
-
-
-def describe(lines, times):
-    with open("/proc/cpuinfo") as info:
-        models = {line.split(":", 1)[1].strip() for line in info if line.startswith("model name")}
-    print(f"{os.cpu_count()} cores, {', '.join(sorted(models)) or 'unknown processor'}")
-    if shutil.which("rustc"):
-        print(subprocess.run(["rustc", "--version"], capture_output=True, text=True).stdout.strip())
-    # A child's peak may count what this process had when it started the child.
-    floor = resource.getrusage(resource.RUSAGE_SELF).ru_maxrss * 1024 / 1e6
-    print(f"{lines:,} lines, least of {times} runs; a peak may count the {floor:.1f} MB of this script", flush=True)
 
 
 def main():
@@ -129,12 +102,15 @@ def main():
         commands = {}
         if not words.peer_alone:
             commands["program"] = words.program or built_program()
-        peer = compile_peer(folder)
-        if peer is not None:
-            commands["peer"] = peer
+        if shutil.which("rustc") is None:
+            print("no rustc here: the peer is left out")
+        else:
+            commands["peer"] = [measuring.compile_peer(os.path.join(HERE, "peer", "main.rs"), folder)]
         if not commands:
             sys.exit("nothing to measure")
-        describe(words.lines, words.times)
+        measuring.describe_machine()
+        print(f"{words.lines:,} lines, least of {words.times} runs; "
+              f"a peak may count the {measuring.own_peak():.1f} MB of this script", flush=True)
         traces = write_traces(folder, words.lines)
         table(list(commands), list(commands.values()), traces, words.times)
         if len(commands) == 2:
