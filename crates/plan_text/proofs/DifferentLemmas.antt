@@ -1,7 +1,7 @@
 -- Lists whose values are all different.
 use Rattle.std.proofs.Common.{◌≡◌, List, [], ◌∷◌, length, Bool, true, false, refl, arith}
 use Rattle.std.specs.List.{list_any}
-use Rattle.plan_text.specs.Columns.{are_different}
+use Rattle.query_model.specs.Fit.{are_different}
 
 -- the first one stands nowhere else
 pub are_different-more : {A : Type 0} (same : A → A → Bool) (values : List A) (first : A) (more : List A)

@@ -16,15 +16,17 @@ use Rattle.query_model.specs.declared.output.Output.{Output}
 use Rattle.query_model.specs.declared.output.Output.TheVariants.{Select, Group}
 use Rattle.query_model.specs.declared.plan.Plan.{Plan}
 use Rattle.query_model.specs.declared.test.Test.{Test}
-use Rattle.plan_text.specs.declared.bounds.TheConstants.{MOST_BATCH_ROWS, MOST_COLUMNS, MOST_TESTS}
+use Rattle.query_model.specs.declared.bounds.TheConstants.{MOST_BATCH_ROWS, MOST_COLUMNS, MOST_TESTS}
 use Rattle.plan_text.specs.declared.bounds.TheConstants.{USUAL_BATCH_ROWS}
 use Rattle.plan_text.specs.declared.keys.Keys.{Keys}
 use Rattle.plan_text.specs.declared.keys.Keys.TheVariants as tables
 use Rattle.plan_text.specs.declared.picks.Allowed.{Allowed}
 use Rattle.plan_text.specs.declared.picks.Allowed.TheVariants.{Any, Ints}
-use Rattle.plan_text.specs.Columns.{allows, are_different, column_of, columns_of, have_one_name}
-use Rattle.plan_text.specs.Columns.{kind_at, pick_of, picks_of, place_of}
-use Rattle.plan_text.specs.Fit.{ArePicks, FitsColumn, FitsColumns, IsFit, compared_kind}
+use Rattle.query_model.specs.Fit.{are_different, have_one_name}
+use Rattle.plan_text.specs.Columns.{allows, column_of, columns_of}
+use Rattle.query_model.specs.Fit.{kind_at}
+use Rattle.plan_text.specs.Columns.{pick_of, picks_of, place_of}
+use Rattle.query_model.specs.Fit.{ArePicks, FitsColumn, FitsColumns, IsFit, compared_kind}
 use Rattle.plan_text.specs.Keys.{has_only, keys_of}
 use Rattle.plan_text.specs.Outputs.{group_of, output_of, select_of}
 use Rattle.plan_text.specs.Plans.{IsPlan, numbers_in, table_of}

@@ -1,14 +1,14 @@
 -- The columns of a plan, and picks among them.
-use Rattle.std.specs.Prelude.{ℕ, Bool, true, false, not, ◌&&◌, ◌-◌, List, [], ◌∷◌, take, length, position, nat_eq}
-use Rattle.std.specs.Prelude.{Option, Some, None, if◌then◌else◌, option_map, slice_get, codes}
-use Rattle.std.specs.List.{ends_with, list_any}
-use Rattle.std.specs.Str.{bytes_eq}
+use Rattle.std.specs.Prelude.{ℕ, Bool, true, false, ◌-◌, List, [], ◌∷◌, take, length, position, nat_eq}
+use Rattle.std.specs.Prelude.{Option, Some, None, if◌then◌else◌, option_map, codes}
+use Rattle.std.specs.List.{ends_with}
 use Rattle.toml.specs.Data.{Data, as_str}
 use Rattle.mem_num.specs.Name.{name_word}
 use Rattle.query_model.specs.declared.column.Column.{Column}
+use Rattle.query_model.specs.Fit.{are_different, have_one_name, is_named, kind_at}
 use Rattle.query_model.specs.declared.kind.Kind.{Kind}
 use Rattle.query_model.specs.declared.kind.Kind.TheVariants as kind
-use Rattle.plan_text.specs.declared.bounds.TheConstants.{MOST_COLUMNS}
+use Rattle.query_model.specs.declared.bounds.TheConstants.{MOST_COLUMNS}
 use Rattle.plan_text.specs.declared.picks.Allowed.{Allowed}
 use Rattle.plan_text.specs.declared.picks.Allowed.TheVariants as allowed
 use Rattle.plan_text.specs.Values.{◌>>=◌, each_of, items_between}
@@ -34,23 +34,9 @@ column_in word =
 abbrev pub column_of : Data → Option Column
 column_of value = as_str value >>= column_in
 
--- no value is the same as one after it
-unfoldable pub are_different : {A : Type 0} → (A → A → Bool) → List A → Bool
-are_different same [] = true
-are_different same (value ∷ values) =
-    not (list_any (λ other. same other value) values) && are_different same values
-
 -- values that are all different
 abbrev pub if_different : {A : Type 0} → (A → A → Bool) → List A → Option (List A)
 if_different same values = if are_different same values then Some values else None
-
--- a column of this name
-abbrev pub is_named : List ℕ → Column → Bool
-is_named name column = bytes_eq column.name name
-
--- two columns have one name
-abbrev pub have_one_name : Column → Column → Bool
-have_one_name a b = is_named b.name a
 
 -- the columns of a plan: 1 to 32, with different names
 abbrev pub columns_of : Data → Option (List Column)
@@ -62,10 +48,6 @@ columns_of value = do
 -- the number of the column of a name
 abbrev pub place_of : List Column → List ℕ → Option ℕ
 place_of columns name = position (is_named name) columns
-
--- the kind of the column of a number
-abbrev pub kind_at : List Column → ℕ → Option Kind
-kind_at columns place = option_map (λ column. column.kind) (slice_get columns place)
 
 -- any column may be picked, or those of whole numbers
 abbrev pub allows : Allowed → Kind → Bool

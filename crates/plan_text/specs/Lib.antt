@@ -5,4 +5,3 @@ pub mod Columns
 pub mod Tests
 pub mod Outputs
 pub mod Plans
-pub mod Fit

@@ -1,11 +1,12 @@
 -- Which documents are plans, key by key.
-use Rattle.std.specs.Prelude.{◌≡◌, ℕ, Bool, true, List, Option, Some, None, drop, nat_le, if◌then◌else◌, codes, IsUtf8}
-use Rattle.std.specs.List.{list_all, zip}
+use Rattle.std.specs.Prelude.{◌≡◌, ℕ, Bool, true, List, Option, Some, None, if◌then◌else◌, codes, IsUtf8}
 use Rattle.toml.specs.Data.{Data, Members, get_member, no_members, as_table}
 use Rattle.toml.specs.Parse.{parse_document}
 use Rattle.mem_num.specs.declared.bounds.TheConstants.{MAX_LIMIT, MAX_RESERVATION}
 use Rattle.query_model.specs.declared.plan.Plan.{Plan}
-use Rattle.plan_text.specs.declared.bounds.TheConstants.{MOST_BATCH_ROWS, USUAL_BATCH_ROWS}
+use Rattle.query_model.specs.Fit.{are_covered}
+use Rattle.query_model.specs.declared.bounds.TheConstants.{MOST_BATCH_ROWS}
+use Rattle.plan_text.specs.declared.bounds.TheConstants.{USUAL_BATCH_ROWS}
 use Rattle.plan_text.specs.declared.keys.Keys.{Keys}
 use Rattle.plan_text.specs.declared.keys.Keys.TheVariants as tables
 use Rattle.plan_text.specs.Columns.{columns_of}
@@ -35,14 +36,6 @@ limits_of value = table_of value >>= numbers_in MAX_LIMIT MAX_LIMIT tables.Limit
 -- the reservations of the allocators below the root: 0 where a key is absent
 abbrev pub reserves_of : Option Data → Option (List ℕ)
 reserves_of value = table_of value >>= numbers_in MAX_RESERVATION 0 tables.Reserve
-
--- each reservation is at most the limit beside it
-abbrev pub are_within : List ℕ → List ℕ → Bool
-are_within limits reserves = list_all (λ both. nat_le both.0 both.1) (zip reserves limits)
-
--- each reservation is at most the limit of its allocator; the root has a limit alone
-abbrev pub are_covered : List ℕ → List ℕ → Bool
-are_covered limits reserves = are_within (drop 1 limits) reserves
 
 -- a document is this plan
 pub record IsPlan (document : Members) (plan : Plan) : Type 0 where

@@ -10,9 +10,10 @@ use Rattle.query_model.specs.declared.kind.Kind.TheVariants as kind
 use Rattle.query_model.specs.declared.op.Op.{Op}
 use Rattle.query_model.specs.declared.op.Op.TheVariants.{Eq, Ne, Lt, Le, Gt, Ge}
 use Rattle.query_model.specs.declared.test.Test.{Test}
-use Rattle.plan_text.specs.declared.bounds.TheConstants.{MOST_TESTS}
+use Rattle.query_model.specs.declared.bounds.TheConstants.{MOST_TESTS}
 use Rattle.plan_text.specs.declared.keys.Keys.TheVariants as tables
-use Rattle.plan_text.specs.Columns.{kind_at, place_of}
+use Rattle.query_model.specs.Fit.{kind_at}
+use Rattle.plan_text.specs.Columns.{place_of}
 use Rattle.plan_text.specs.Keys.{has_only, keys_of}
 use Rattle.plan_text.specs.Values.{◌>>=◌, each_of, items_between, text_at}
 

@@ -2,11 +2,13 @@
 ghost use Rattle.std.specs.Prelude.{◌≡◌, ◌<◌, ◌≤◌, IfOk, IfSome, length, map, option_map};
 ghost use Rattle.std.specs.List.{list_any};
 ghost use Rattle.toml.specs.View.{view};
-ghost use Rattle.plan_text.specs.Columns.{are_different, column_of, columns_of, have_one_name};
-ghost use Rattle.plan_text.specs.Columns.{is_named, kind_at, place_of};
+ghost use Rattle.query_model.specs.Fit.{are_different, have_one_name};
+ghost use Rattle.plan_text.specs.Columns.{column_of, columns_of};
+ghost use Rattle.query_model.specs.Fit.{is_named, kind_at};
+ghost use Rattle.plan_text.specs.Columns.{place_of};
 ghost use Rattle.plan_text.specs.Values.{Reads, each_of};
 
-use crate::bounds::MOST_COLUMNS;
+use query_model::MOST_COLUMNS;
 use crate::column::read_column;
 use crate::refused::PlanRefused;
 use crate::value::items_between;

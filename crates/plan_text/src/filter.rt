@@ -4,7 +4,7 @@ ghost use Rattle.toml.specs.View.{view};
 ghost use Rattle.plan_text.specs.Tests.{test_of, tests_of};
 ghost use Rattle.plan_text.specs.Values.{Reads, each_of};
 
-use crate::bounds::{MOST_COLUMNS, MOST_TESTS};
+use query_model::{MOST_COLUMNS, MOST_TESTS};
 use crate::refused::PlanRefused;
 use crate::test::read_test;
 use crate::value::items_between;

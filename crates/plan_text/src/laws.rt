@@ -1,7 +1,7 @@
 //! The laws of plans as bytes. Each function does nothing: its contract is a law, which the check proves.
 ghost use Rattle.std.specs.Prelude.{◌≡◌, ℕ, List};
 ghost use Rattle.query_model.specs.declared.plan.Plan.{Plan};
-ghost use Rattle.plan_text.specs.Fit.{IsFit};
+ghost use Rattle.query_model.specs.Fit.{IsFit};
 ghost use Rattle.plan_text.specs.Plans.{IsPlanText};
 
 /// Bytes are one plan at most: so the clauses of `read_plan` determine its answer, but for want of memory.

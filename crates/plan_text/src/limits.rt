@@ -2,7 +2,8 @@
 ghost use Rattle.std.specs.Prelude.{◌≡◌, option_map};
 ghost use Rattle.toml.specs.View.{table_view, view};
 ghost use Rattle.plan_text.specs.Keys.{keys_of};
-ghost use Rattle.plan_text.specs.Plans.{are_covered, are_within, limits_of, numbers_in, reserves_of};
+ghost use Rattle.query_model.specs.Fit.{are_covered, are_within};
+ghost use Rattle.plan_text.specs.Plans.{limits_of, numbers_in, reserves_of};
 ghost use Rattle.plan_text.specs.Values.{number_of, numbers_at};
 ghost use Rattle.toml.specs.Data.{get_member};
 

@@ -4,7 +4,8 @@ ghost use Rattle.toml.specs.View.{view};
 ghost use Rattle.plan_text.specs.Plans.{batch_of};
 ghost use Rattle.plan_text.specs.Values.{number_of};
 
-use crate::bounds::{MOST_BATCH_ROWS, USUAL_BATCH_ROWS};
+use crate::bounds::USUAL_BATCH_ROWS;
+use query_model::MOST_BATCH_ROWS;
 use toml::Value;
 
 /// The number that a value is, from the least to the most, or what stands for an absent one. Takes no memory.

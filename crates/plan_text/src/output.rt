@@ -5,7 +5,7 @@ ghost use Rattle.toml.specs.View.{table_view, view};
 ghost use Rattle.plan_text.specs.Outputs.{group_of, output_at, select_of};
 ghost use Rattle.plan_text.specs.Values.{Reads};
 
-use crate::bounds::MOST_COLUMNS;
+use query_model::MOST_COLUMNS;
 use crate::picks::{Allowed, pick_of, read_picks};
 use crate::refused::PlanRefused;
 use crate::value::value_at;

@@ -1,10 +1,11 @@
 //! Picked columns.
 ghost use Rattle.std.specs.Prelude.{◌≡◌, ◌<◌, ◌≤◌, IfSome, length, map, nat_eq};
 ghost use Rattle.toml.specs.View.{view};
-ghost use Rattle.plan_text.specs.Columns.{allows, are_different, pick_of, picks_of};
+ghost use Rattle.query_model.specs.Fit.{are_different};
+ghost use Rattle.plan_text.specs.Columns.{allows, pick_of, picks_of};
 ghost use Rattle.plan_text.specs.Values.{Reads, each_of};
 
-use crate::bounds::MOST_COLUMNS;
+use query_model::MOST_COLUMNS;
 use crate::columns::{kind_at, place_of};
 use crate::refused::PlanRefused;
 use crate::value::items_between;

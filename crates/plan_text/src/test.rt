@@ -4,7 +4,7 @@ ghost use Rattle.toml.specs.View.{table_view, view};
 ghost use Rattle.plan_text.specs.Tests.{cell_of, op_at, place_at, test_of, test_with};
 ghost use Rattle.plan_text.specs.Values.{Reads};
 
-use crate::bounds::MOST_COLUMNS;
+use query_model::MOST_COLUMNS;
 use crate::columns::{kind_at, place_of};
 use crate::keys::Keys;
 use crate::op::op_of;

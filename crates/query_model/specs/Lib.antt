@@ -2,3 +2,6 @@
 pub mod Cells
 pub mod Buffers
 pub mod Bytes
+pub mod Filter
+pub mod Answer
+pub mod Fit

@@ -18,7 +18,7 @@ mod test;
 mod tests_list;
 mod text;
 
-pub use bounds::{MOST_ROWS, MOST_TEXT_BYTES};
+pub use bounds::{MOST_BATCH_ROWS, MOST_COLUMNS, MOST_ROWS, MOST_TESTS, MOST_TEXT_BYTES};
 pub use cell::Cell;
 pub use cells::Cells;
 pub use column::Column;

@@ -1,7 +1,7 @@
 use Rattle.std.proofs.Common.{◌≡◌, ◌∙◌, sym, ap, true, false, List, ℕ}
 use Rattle.std.specs.List.{list_any}
 use Rattle.query_model.specs.declared.column.Column.{Column}
-use Rattle.plan_text.specs.Columns.{have_one_name, is_named}
+use Rattle.query_model.specs.Fit.{have_one_name, is_named}
 use Rattle.plan_text.proofs.DifferentLemmas.{are_different-found, are_different-more, are_different-none}
 use Rattle.plan_text.proofs.columns.have_different_names.Goals as goal
 

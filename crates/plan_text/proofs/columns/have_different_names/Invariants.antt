@@ -1,6 +1,6 @@
 -- All are different where the rest are.
 use Rattle.std.proofs.Common.{◌≡◌, length}
-use Rattle.plan_text.specs.Columns.{are_different, have_one_name}
+use Rattle.query_model.specs.Fit.{are_different, have_one_name}
 use Rattle.plan_text.proofs.columns.have_different_names.Given as goal
 
 abbrev pub invariant-rest : goal.invariant-rest

@@ -1,7 +1,7 @@
 use Rattle.std.proofs.Common.{sym, map}
 use Rattle.toml.specs.View.{view}
 use Rattle.plan_text.specs.Columns.{column_of}
-use Rattle.plan_text.specs.declared.bounds.TheConstants.{MOST_COLUMNS}
+use Rattle.query_model.specs.declared.bounds.TheConstants.{MOST_COLUMNS}
 use Rattle.plan_text.proofs.EachLemmas.{each_of-length, items_between-parts}
 use Rattle.plan_text.proofs.columns.read_columns.Goals as goal
 

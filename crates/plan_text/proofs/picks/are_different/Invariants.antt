@@ -1,6 +1,6 @@
 -- All are different where the rest are.
 use Rattle.std.proofs.Common.{◌≡◌, length, nat_eq}
-use Rattle.plan_text.specs.Columns.{are_different}
+use Rattle.query_model.specs.Fit.{are_different}
 use Rattle.plan_text.proofs.picks.are_different.Given as goal
 
 abbrev pub invariant-rest : goal.invariant-rest

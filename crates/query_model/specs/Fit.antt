@@ -1,6 +1,10 @@
 -- What every plan has: its parts fit its columns, and its numbers their bounds.
-use Rattle.std.specs.Prelude.{◌≡◌, ◌≤◌, ◌<◌, ℕ, true, nat_eq, List, All, length, Option, Some, None}
+use Rattle.std.specs.Prelude.{◌≡◌, ◌≤◌, ◌<◌, ℕ, Bool, true, not, ◌&&◌, nat_eq, nat_le, List, [], ◌∷◌, All, length, drop}
+use Rattle.std.specs.Prelude.{Option, Some, None, option_map, slice_get}
+use Rattle.std.specs.List.{list_all, list_any, zip}
+use Rattle.std.specs.Str.{bytes_eq}
 use Rattle.mem_num.specs.declared.bounds.TheConstants.{MAX_LIMIT, MAX_RESERVATION}
+use Rattle.query_model.specs.declared.bounds.TheConstants.{MOST_BATCH_ROWS, MOST_COLUMNS, MOST_TESTS}
 use Rattle.query_model.specs.declared.cell.Cell.{Cell}
 use Rattle.query_model.specs.declared.cell.Cell.TheVariants.{Null, Int, Sum, Text}
 use Rattle.query_model.specs.declared.column.Column.{Column}
@@ -10,9 +14,32 @@ use Rattle.query_model.specs.declared.output.Output.{Output}
 use Rattle.query_model.specs.declared.output.Output.TheVariants.{Select, Group}
 use Rattle.query_model.specs.declared.plan.Plan.{Plan}
 use Rattle.query_model.specs.declared.test.Test.{Test}
-use Rattle.plan_text.specs.declared.bounds.TheConstants.{MOST_BATCH_ROWS, MOST_COLUMNS, MOST_TESTS}
-use Rattle.plan_text.specs.Columns.{are_different, have_one_name, kind_at}
-use Rattle.plan_text.specs.Plans.{are_covered}
+
+-- no value is the same as one after it
+unfoldable pub are_different : {A : Type 0} → (A → A → Bool) → List A → Bool
+are_different same [] = true
+are_different same (value ∷ values) =
+    not (list_any (λ other. same other value) values) && are_different same values
+
+-- a column of this name
+abbrev pub is_named : List ℕ → Column → Bool
+is_named name column = bytes_eq column.name name
+
+-- two columns have one name
+abbrev pub have_one_name : Column → Column → Bool
+have_one_name a b = is_named b.name a
+
+-- the kind of the column of a number
+abbrev pub kind_at : List Column → ℕ → Option Kind
+kind_at columns place = option_map (λ column. column.kind) (slice_get columns place)
+
+-- each reservation is at most the limit beside it
+abbrev pub are_within : List ℕ → List ℕ → Bool
+are_within limits reserves = list_all (λ both. nat_le both.0 both.1) (zip reserves limits)
+
+-- each reservation is at most the limit of its allocator; the root has a limit alone
+abbrev pub are_covered : List ℕ → List ℕ → Bool
+are_covered limits reserves = are_within (drop 1 limits) reserves
 
 -- the kind of the columns whose cells are compared with this one
 abbrev pub compared_kind : Cell → Option Kind
