@@ -1,2 +1,3 @@
 -- The lemmas of this crate. A crate above reads columns back by them: `offset_at`, `read_back` and `lengths_of`.
 pub mod BytesLemmas
+pub mod WorkedExamples

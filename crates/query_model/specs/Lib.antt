@@ -5,3 +5,5 @@ pub mod Bytes
 pub mod Filter
 pub mod Answer
 pub mod Fit
+pub mod Requests
+pub mod SequentialCalls
