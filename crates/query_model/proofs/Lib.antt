@@ -1,3 +1,9 @@
 -- The lemmas of this crate. A crate above reads columns back by them: `offset_at`, `read_back` and `lengths_of`.
 pub mod BytesLemmas
 pub mod WorkedExamples
+pub mod KeyLemmas
+pub mod RisingLemmas
+pub mod SumLemmas
+pub mod GroupLemmas
+pub mod BatchLemmas
+pub mod CutLemmas

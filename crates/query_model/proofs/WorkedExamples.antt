@@ -35,14 +35,22 @@ table =
 -- the plan of groups, with these limits of the root and of the filter
 abbrev grouping : ℕ → ℕ → Plan
 grouping root filtered = record {
-  columns = columns; batch = 2; tests = []; output = Group 0 (1 ∷ []);
-  limits = root ∷ most ∷ filtered ∷ most ∷ most ∷ most ∷ []; reserves = 0 ∷ 0 ∷ 0 ∷ 0 ∷ 0 ∷ [];
+  columns = columns;
+  batch = 2;
+  tests = [];
+  output = Group 0 (1 ∷ []);
+  limits = root ∷ most ∷ filtered ∷ most ∷ most ∷ most ∷ [];
+  reserves = 0 ∷ 0 ∷ 0 ∷ 0 ∷ 0 ∷ [];
 }
 
 abbrev selecting : Plan
 selecting = record {
-  columns = columns; batch = 2; tests = record { column = 1; op = Ge; value = Int (pos 0) } ∷ []; output = Select (1 ∷ []);
-  limits = most ∷ most ∷ most ∷ most ∷ most ∷ most ∷ []; reserves = 0 ∷ 0 ∷ 0 ∷ 0 ∷ 0 ∷ [];
+  columns = columns;
+  batch = 2;
+  tests = record { column = 1; op = Ge; value = Int (pos 0) } ∷ [];
+  output = Select (1 ∷ []);
+  limits = most ∷ most ∷ most ∷ most ∷ most ∷ most ∷ [];
+  reserves = 0 ∷ 0 ∷ 0 ∷ 0 ∷ 0 ∷ [];
 }
 
 abbrev plan : Plan
@@ -139,7 +147,9 @@ numbers asked rows =
 
 -- the live chunks: number, size, owner, and the counts
 abbrev live : Plan → List (List Cell) → List (List ℕ)
-live asked rows = map (λ chunk. chunk.number ∷ chunk.size ∷ chunk.owner.0 ∷ map (λ ledger. ledger.count) chunk.ledgers) (sequential_run asked rows).state.chunks
+live asked rows =
+    map (λ chunk. chunk.number ∷ chunk.size ∷ chunk.owner.0 ∷ map (λ ledger. ledger.count) chunk.ledgers)
+    (sequential_run asked rows).state.chunks
 
 group-numbers : numbers plan table ≡ (66, 228) ∷ (0, 50) ∷ (0, 50) ∷ (0, 0) ∷ (0, 162) ∷ (66, 66) ∷ []
 unfolding rounded_size power_from grant_result child_result transfer_result release_result with_count
@@ -155,6 +165,7 @@ unfolding rounded_size power_from grant_result child_result transfer_result rele
 select-numbers = refl
 
 select-chunks : live selecting table ≡
-    (7 ∷ 2 ∷ 5 ∷ 1 ∷ []) ∷ (8 ∷ 8 ∷ 5 ∷ 1 ∷ []) ∷ (15 ∷ 2 ∷ 5 ∷ 1 ∷ []) ∷ (16 ∷ 8 ∷ 5 ∷ 1 ∷ []) ∷ (23 ∷ 2 ∷ 5 ∷ 1 ∷ []) ∷ (24 ∷ 8 ∷ 5 ∷ 1 ∷ []) ∷ []
+    (7 ∷ 2 ∷ 5 ∷ 1 ∷ []) ∷ (8 ∷ 8 ∷ 5 ∷ 1 ∷ []) ∷ (15 ∷ 2 ∷ 5 ∷ 1 ∷ [])
+    ∷ (16 ∷ 8 ∷ 5 ∷ 1 ∷ []) ∷ (23 ∷ 2 ∷ 5 ∷ 1 ∷ []) ∷ (24 ∷ 8 ∷ 5 ∷ 1 ∷ []) ∷ []
 unfolding rounded_size power_from grant_result child_result transfer_result release_result with_count
 select-chunks = refl

@@ -13,6 +13,7 @@ mod op;
 mod output;
 mod picks;
 mod plan;
+mod query_laws;
 mod row;
 mod test;
 mod tests_list;
@@ -30,6 +31,9 @@ pub use op::Op;
 pub use output::Output;
 pub use picks::Picks;
 pub use plan::Plan;
+pub use query_laws::{
+    answers_do_not_depend_on_batches, answers_do_not_depend_on_cuts, batches_are_the_rows,
+};
 pub use row::Row;
 pub use test::Test;
 pub use tests_list::Tests;
