@@ -7,3 +7,6 @@ pub mod SumLemmas
 pub mod GroupLemmas
 pub mod BatchLemmas
 pub mod CutLemmas
+pub mod RoundingLemmas
+pub mod WithinLemmas
+pub mod CeilingLemmas

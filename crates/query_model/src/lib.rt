@@ -14,6 +14,7 @@ mod output;
 mod picks;
 mod plan;
 mod query_laws;
+mod request_laws;
 mod row;
 mod test;
 mod tests_list;
@@ -34,6 +35,7 @@ pub use plan::Plan;
 pub use query_laws::{
     answers_do_not_depend_on_batches, answers_do_not_depend_on_cuts, batches_are_the_rows,
 };
+pub use request_laws::{fewer_rows_have_shorter_buffers, needs_are_within_their_ceiling};
 pub use row::Row;
 pub use test::Test;
 pub use tests_list::Tests;

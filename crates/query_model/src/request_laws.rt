@@ -1,0 +1,29 @@
+//! The laws of what a query asks for. Each function does nothing: its contract is a law, which the check proves.
+ghost use Rattle.std.specs.Prelude.{◌≡◌, ◌≤◌, ℕ, List, All, length, map, slice_index_or, sum};
+ghost use Rattle.query_model.specs.Buffers.{buffer_lengths, buffer_sizes};
+ghost use Rattle.query_model.specs.Filter.{meeting};
+ghost use Rattle.query_model.specs.Requests.{buffer_requests, byte_ceiling};
+ghost use Rattle.query_model.specs.declared.cell.Cell.{Cell};
+ghost use Rattle.query_model.specs.declared.kind.Kind.{Kind};
+ghost use Rattle.query_model.specs.declared.plan.Plan.{Plan};
+ghost use Rattle.query_model.specs.declared.test.Test.{Test};
+
+/// The buffers of the rows that meet tests are as many as those of all rows, none is longer, and they are charged no more.
+pub fn fewer_rows_have_shorter_buffers()
+    ensures count { (kinds : List Kind) (tests : List Test) (rows : List (List Cell)) →
+        length (buffer_lengths kinds (meeting tests rows)) ≡ length (buffer_lengths kinds rows) }
+    ensures lengths { (kinds : List Kind) (tests : List Test) (rows : List (List Cell)) (place : ℕ) →
+        slice_index_or (buffer_lengths kinds (meeting tests rows)) place 0
+        ≤ slice_index_or (buffer_lengths kinds rows) place 0 }
+    ensures bound { (kinds : List Kind) (tests : List Test) (rows : List (List Cell)) (most : ℕ) →
+        All (λ length. length ≤ most) (buffer_lengths kinds rows) →
+        All (λ length. length ≤ most) (buffer_lengths kinds (meeting tests rows)) }
+    ensures charges { (kinds : List Kind) (tests : List Test) (rows : List (List Cell)) →
+        sum (buffer_sizes kinds (meeting tests rows)) ≤ sum (buffer_sizes kinds rows) }
+{}
+
+/// What a batch asks for, beside the reservations, is within its ceiling.
+pub fn needs_are_within_their_ceiling()
+    ensures { (plan : Plan) (rows : List (List Cell)) (batch : ℕ) →
+        sum (map (λ request. request.amount) (buffer_requests plan rows batch)) ≤ byte_ceiling plan rows batch }
+{}
