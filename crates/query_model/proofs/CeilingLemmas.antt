@@ -1,5 +1,5 @@
 -- What a batch asks for is within its ceiling.
-use Rattle.std.specs.Prelude.{◌≡◌, ◌≤◌, ◌+◌, ◌*◌, ℕ, zero, suc, List, [], ◌∷◌, ◌++◌, length, map, flat_map, get_or, sum, sum_by, refl}
+use Rattle.std.specs.Prelude.{◌≡◌, ◌≤◌, ◌+◌, ℕ, zero, suc, List, [], ◌∷◌, ◌++◌, length, map, flat_map, get_or, sum, sum_by, refl}
 use Rattle.std.specs.List.{list_all}
 use Rattle.std.specs.Cmp.Lexicographic.{slice_cmp}
 use Rattle.std.specs.Ordering.{match_ordering, nat_cmp}
@@ -11,19 +11,18 @@ use Rattle.std.proofs.lemmas.List.Sums.{sum_by-append, sum_by-cons}
 use Rattle.mem_num.specs.declared.alloc_id.AllocId.{AllocId}
 use Rattle.mem_model.specs.declared.charge.Charge.{Charge}
 use Rattle.query_model.specs.declared.cell.Cell.{Cell}
-use Rattle.query_model.specs.declared.cell.Cell.TheVariants.{Null, Int, Sum, Text}
-use Rattle.query_model.specs.declared.kind.Kind.{Kind}
+use Rattle.query_model.specs.declared.cell.Cell.TheVariants.{Null, Text}
 use Rattle.query_model.specs.declared.output.Output.{Output}
 use Rattle.query_model.specs.declared.output.Output.TheVariants.{Select, Group}
 use Rattle.query_model.specs.declared.plan.Plan.{Plan}
 use Rattle.query_model.specs.declared.test.Test.{Test}
 use Rattle.query_model.specs.Answer.{with_key, distinct, key_of, rows_with_key, numbers_at, sum_cell, sum_of, group_of, groups_of}
-use Rattle.query_model.specs.Answer.{output_of, answer_of}
+use Rattle.query_model.specs.Answer.{output_of}
 use Rattle.query_model.specs.Buffers.{text_length, texts_length, buffer_sizes}
 use Rattle.query_model.specs.Cells.{cell_at, column_of}
 use Rattle.query_model.specs.Filter.{meets, meeting}
 use Rattle.query_model.specs.Requests.{scan_id, filter_id, sums_id, result_id, kinds_of, answer_kinds, batch_rows, requests_at, group_sizes}
-use Rattle.query_model.specs.Requests.{buffer_requests, sizes_apart, group_ceiling, byte_ceiling}
+use Rattle.query_model.specs.Requests.{buffer_requests, sizes_apart, rows_requests, byte_ceiling}
 use Rattle.query_model.proofs.KeyLemmas.{Key}
 use Rattle.query_model.proofs.WithinLemmas.{AreLess, charges-within, met-less, met-charges, sum_by-map, sum_by-passing}
 
@@ -145,13 +144,30 @@ groups-within plan rows (Group key sums) is =
     (charges-within (answer_kinds plan) _ _ (groups-less key sums plan.tests rows))
 
 -- requests at one allocator ask for their sizes
-sum-requests : (at : AllocId) (sizes : List ℕ) → map (λ request. request.amount) (requests_at at sizes) ≡ sizes
+pub sum-requests : (at : AllocId) (sizes : List ℕ) → map (λ request. request.amount) (requests_at at sizes) ≡ sizes
 sum-requests at [] = refl
 sum-requests at (size ∷ sizes) = ap (λ rest. size ∷ rest) (sum-requests at sizes)
 
 -- what requests ask for
-abbrev amounts : List Charge → List ℕ
+abbrev pub amounts : List Charge → List ℕ
 amounts requests = map (λ request. request.amount) requests
+
+-- what requests ask for, some and more
+pub sum-amounts : (requests more : List Charge) → sum (amounts (requests ++ more)) ≡ sum (amounts requests) + sum (amounts more)
+sum-amounts requests more = ap sum (map-append (λ request. request.amount) requests more)
+    ∙ sum_by-append (λ size. size) (amounts requests) (amounts more)
+
+-- what the rows of a batch ask for: the scan, the filter and the groups
+pub sum-rows : (plan : Plan) (rows : List (List Cell)) → sum (amounts (rows_requests plan rows))
+    ≡ sum (buffer_sizes (kinds_of plan.columns) rows)
+    + (sum (buffer_sizes (kinds_of plan.columns) (meeting plan.tests rows)) + sum (group_sizes plan rows plan.output))
+sum-rows plan rows =
+    let scan = buffer_sizes (kinds_of plan.columns) rows in
+    let filtered = buffer_sizes (kinds_of plan.columns) (meeting plan.tests rows) in
+    let groups = group_sizes plan rows plan.output in
+    sum-amounts (requests_at scan_id scan) (requests_at filter_id filtered ++ requests_at sums_id groups)
+    ∙ (λ k. sum (sum-requests scan_id scan k) + sum-amounts (requests_at filter_id filtered) (requests_at sums_id groups) k)
+    ∙ (λ k. sum scan + (sum (sum-requests filter_id filtered k) + sum (sum-requests sums_id groups k)))
 
 -- what a batch asks for is within its ceiling
 pub needs-within : (plan : Plan) (rows : List (List Cell)) (batch : ℕ) →
@@ -163,19 +179,7 @@ needs-within plan rows zero =
     omega (arith, a, b)
 needs-within plan rows (suc batch) =
     let part = batch_rows plan rows (suc batch) in
-    let kinds = kinds_of plan.columns in
-    let scan = buffer_sizes kinds part in
-    let filtered = buffer_sizes kinds (meeting plan.tests part) in
-    let groups = group_sizes plan part plan.output in
-    let amount : Charge → ℕ = λ request. request.amount in
-    let later = requests_at filter_id filtered ++ requests_at sums_id groups in
-    let all : amounts (requests_at scan_id scan ++ later) ≡ scan ++ (filtered ++ groups) =
-    map-append amount (requests_at scan_id scan) later
-    ∙ (λ k. sum-requests scan_id scan k ++ map-append amount (requests_at filter_id filtered) (requests_at sums_id groups) k)
-    ∙ (λ k. scan ++ (sum-requests filter_id filtered k ++ sum-requests sums_id groups k)) in
-    let a : sum (amounts (requests_at scan_id scan ++ later)) ≡ sum (scan ++ (filtered ++ groups)) = ap sum all in
-    let b = sum_by-append (λ size. size) scan (filtered ++ groups) in
-    let c = sum_by-append (λ size. size) filtered groups in
-    let d = met-charges kinds plan.tests part in
-    let e = groups-within plan part plan.output refl in
-    omega (arith, a, b, c, d, e)
+    let a = sum-rows plan part in
+    let b = met-charges (kinds_of plan.columns) plan.tests part in
+    let c = groups-within plan part plan.output refl in
+    omega (arith, a, b, c)

@@ -1,5 +1,5 @@
 -- An answer doesn't depend on where its rows are cut.
-use Rattle.std.specs.Prelude.{◌≡◌, ◌≤◌, ℕ, List, map, flat_map, refl}
+use Rattle.std.specs.Prelude.{◌≡◌, ◌≤◌, List, map, flat_map, refl}
 use Rattle.std.specs.List.{list_all}
 use Rattle.std.proofs.Common.{sym, ap, ◌∙◌}
 use Rattle.std.proofs.lemmas.List.{map-append}

@@ -1,5 +1,5 @@
 -- Groups of parts, grouped again, are the groups of the whole.
-use Rattle.std.specs.Prelude.{◌≡◌, ◌<◌, ◌+◌, ℕ, ℤ, zero, suc, Bool, true, false, nat_eq, List, [], ◌∷◌, ◌++◌, map, filter, flat_map, length}
+use Rattle.std.specs.Prelude.{◌≡◌, ◌<◌, ◌+◌, ℕ, ℤ, suc, Bool, true, false, nat_eq, List, [], ◌∷◌, ◌++◌, map, filter, flat_map, length}
 use Rattle.std.specs.Prelude.{get_or, cond, refl}
 use Rattle.std.specs.Cmp.Lexicographic.{pointwise}
 use Rattle.std.specs.List.{filter_map, range_with_len}
@@ -9,11 +9,11 @@ use Rattle.std.proofs.lemmas.List.Elements.{filter-append, filter_map-append}
 use Rattle.std.proofs.lemmas.List.Folds.{flat_map-map}
 use Rattle.std.proofs.lemmas.Simd.{map-map}
 use Rattle.query_model.specs.declared.cell.Cell.{Cell}
-use Rattle.query_model.specs.declared.cell.Cell.TheVariants.{Null, Int, Sum, Text}
+use Rattle.query_model.specs.declared.cell.Cell.TheVariants.{Null, Text}
 use Rattle.query_model.specs.Answer.{distinct, key_of, rows_with_key, number_of, sum_cell, numbers_at, sum_of, group_of, groups_of}
 use Rattle.query_model.specs.Cells.{cell_at}
 use Rattle.query_model.proofs.KeyLemmas.{Key, distinct_cut}
-use Rattle.query_model.proofs.RisingLemmas.{same_keys, once, same-distinct}
+use Rattle.query_model.proofs.RisingLemmas.{once, same-distinct}
 use Rattle.query_model.proofs.SumLemmas.{total, sum_cut}
 
 -- rows, each the list of its cells

@@ -10,3 +10,8 @@ pub mod CutLemmas
 pub mod RoundingLemmas
 pub mod WithinLemmas
 pub mod CeilingLemmas
+pub mod GrownTreeLemmas
+pub mod RoomLemmas
+pub mod AdequateLemmas
+pub mod AskedLemmas
+pub mod RefusalLemmas

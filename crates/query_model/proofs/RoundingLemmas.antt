@@ -1,7 +1,7 @@
 -- Longer buffers are charged no less.
-use Rattle.std.proofs.Common.{◌≡◌, ℕ, zero, suc, ◌+◌, ◌^◌, ◌≤◌, ◌<◌, ◌∙◌, refl, arith, inl, inr, leb, ltb, true, false, lit≤, subst, sym}
+use Rattle.std.proofs.Common.{◌≡◌, ℕ, zero, suc, ◌+◌, ◌^◌, ◌≤◌, ◌∙◌, refl, arith, inl, inr, leb, ltb, true, false, lit≤}
 use Rattle.std.proofs.Common.{ap}
-use Rattle.std.specs.Prelude.{List, [], ◌∷◌, map, filter, sum, nat_lt, cond}
+use Rattle.std.specs.Prelude.{List, ◌∷◌, map, filter, sum, nat_lt, cond}
 use Rattle.std.proofs.lemmas.Bool.{cases_lt}
 use Rattle.std.proofs.lemmas.Bool.Decides.{nat_tests}
 use Rattle.std.proofs.Math.Nat.{pow-le-pow_right}

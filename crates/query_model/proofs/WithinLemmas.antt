@@ -1,8 +1,8 @@
 -- Fewer rows have buffers that are no longer, place by place, and are charged no more.
-use Rattle.std.specs.Prelude.{◌≡◌, ◌≤◌, ◌<◌, ◌+◌, ◌*◌, ◌/◌, ℕ, zero, suc, Bool, true, false, List, [], ◌∷◌, ◌++◌, length, map, filter}
+use Rattle.std.specs.Prelude.{◌≡◌, ◌≤◌, ◌+◌, ℕ, zero, suc, Bool, true, false, List, [], ◌∷◌, ◌++◌, length, map, filter}
 use Rattle.std.specs.Prelude.{get_or, sum, sum_by, cond, All, ⊤, refl}
 use Rattle.std.specs.List.{list_all}
-use Rattle.std.proofs.Common.{arith, sym, ap, ◌∙◌}
+use Rattle.std.proofs.Common.{arith, ap}
 use Rattle.std.proofs.lemmas.List.Elements.{All-head, All-tail, All-cons}
 use Rattle.std.proofs.lemmas.List.Sums.{sum_by-cons}
 use Rattle.std.proofs.lemmas.List.{length-map}
@@ -10,7 +10,7 @@ use Rattle.query_model.specs.declared.cell.Cell.{Cell}
 use Rattle.query_model.specs.declared.kind.Kind.{Kind}
 use Rattle.query_model.specs.declared.kind.Kind.TheVariants as kind
 use Rattle.query_model.specs.declared.test.Test.{Test}
-use Rattle.query_model.specs.Buffers.{validity_length, text_length, texts_length, column_lengths, lengths_from, buffer_lengths, sizes_of}
+use Rattle.query_model.specs.Buffers.{text_length, texts_length, column_lengths, lengths_from, buffer_lengths, sizes_of}
 use Rattle.query_model.specs.Buffers.{buffer_sizes}
 use Rattle.query_model.specs.Cells.{cell_at, column_of}
 use Rattle.query_model.specs.Filter.{meets, meeting}

@@ -16,7 +16,7 @@ use Rattle.query_model.specs.declared.plan.Plan.{Plan}
 use Rattle.query_model.specs.declared.cell.Cell.{Cell}
 use Rattle.query_model.specs.Answer.{answer_of, merged}
 use Rattle.query_model.specs.Requests.{requests_of, batch_count, result_sizes, byte_ceiling, query_worst, batches_of}
-use Rattle.query_model.specs.SequentialCalls.{FullBatch, sequential_calls, sequential_refusal, sequential_run}
+use Rattle.query_model.specs.SequentialCalls.{FullBatch, sequential_refusal, sequential_run}
 use Rattle.mem_model.specs.PeakSample.{peak_of}
 use Rattle.mem_model.specs.TreeState.{held_at}
 

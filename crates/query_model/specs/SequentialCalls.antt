@@ -1,6 +1,7 @@
 -- The calls that a query with one worker makes on its tree, up to the report. A call names a reference by the place of the call that
 -- gives it, where the first call stands at 0.
-use Rattle.std.specs.Prelude.{ℕ, ◌+◌, ◌-◌, ◌*◌, drop, ◌==◌, not, List, [], ◌∷◌, ◌++◌, map, filter, flat_map, length, slice_index_or, Option, Some, None, Result, Ok, Err}
+use Rattle.std.specs.Prelude.{ℕ, ◌+◌, ◌-◌, ◌*◌, drop, ◌==◌, not, List, [], ◌∷◌, ◌++◌, map, filter, flat_map, length, slice_index_or, Option}
+use Rattle.std.specs.Prelude.{Some, None, Result, Err}
 use Rattle.std.specs.List.{range_with_len, list_any}
 use Rattle.mem_num.specs.declared.alloc_id.AllocId.{AllocId}
 use Rattle.mem_num.specs.declared.buffer_ref.Ref.{Ref}

@@ -35,7 +35,9 @@ pub use plan::Plan;
 pub use query_laws::{
     answers_do_not_depend_on_batches, answers_do_not_depend_on_cuts, batches_are_the_rows,
 };
-pub use request_laws::{fewer_rows_have_shorter_buffers, needs_are_within_their_ceiling};
+pub use request_laws::{
+    adequate_limits_never_refuse, fewer_rows_have_shorter_buffers, needs_are_within_their_ceiling,
+};
 pub use row::Row;
 pub use test::Test;
 pub use tests_list::Tests;

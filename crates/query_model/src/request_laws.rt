@@ -1,8 +1,9 @@
 //! The laws of what a query asks for. Each function does nothing: its contract is a law, which the check proves.
-ghost use Rattle.std.specs.Prelude.{◌≡◌, ◌≤◌, ℕ, List, All, length, map, slice_index_or, sum};
+ghost use Rattle.std.specs.Prelude.{◌≡◌, ◌≤◌, ℕ, List, None, All, length, map, slice_index_or, sum};
 ghost use Rattle.query_model.specs.Buffers.{buffer_lengths, buffer_sizes};
 ghost use Rattle.query_model.specs.Filter.{meeting};
-ghost use Rattle.query_model.specs.Requests.{buffer_requests, byte_ceiling};
+ghost use Rattle.query_model.specs.Requests.{AreAdequate, buffer_requests, byte_ceiling};
+ghost use Rattle.query_model.specs.SequentialCalls.{sequential_refusal};
 ghost use Rattle.query_model.specs.declared.cell.Cell.{Cell};
 ghost use Rattle.query_model.specs.declared.kind.Kind.{Kind};
 ghost use Rattle.query_model.specs.declared.plan.Plan.{Plan};
@@ -26,4 +27,10 @@ pub fn fewer_rows_have_shorter_buffers()
 pub fn needs_are_within_their_ceiling()
     ensures { (plan : Plan) (rows : List (List Cell)) (batch : ℕ) →
         sum (map (λ request. request.amount) (buffer_requests plan rows batch)) ≤ byte_ceiling plan rows batch }
+{}
+
+/// Adequate limits never refuse a query with one worker.
+#[tactic(auto, using(crate::proofs::RefusalLemmas::adequate))]
+pub fn adequate_limits_never_refuse()
+    ensures { (plan : Plan) (rows : List (List Cell)) → AreAdequate plan rows → sequential_refusal plan rows ≡ None }
 {}
