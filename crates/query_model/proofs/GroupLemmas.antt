@@ -41,7 +41,7 @@ filter-map p f (x ∷ xs) =
     ap (λ rest. cond (p (f x)) (f x ∷ rest) rest) (filter-map p f xs) ∙ kept-first f x (filter (λ y. p (f y)) xs) (p (f x))
 
 -- a map that changes nothing
-map-itself : {X : Type 0} (xs : List X) → map (λ x. x) xs ≡ xs
+pub map-itself : {X : Type 0} (xs : List X) → map (λ x. x) xs ≡ xs
 map-itself [] = refl
 map-itself (x ∷ xs) = ap (λ rest. x ∷ rest) (map-itself xs)
 
@@ -63,7 +63,7 @@ number-of-sum [] = refl
 number-of-sum (n ∷ numbers) = refl
 
 -- the numbers of a column in the rows of a key, rows and more rows
-numbers-append : (column place : ℕ) (key : Key) (rows more : Rows) →
+pub numbers-append : (column place : ℕ) (key : Key) (rows more : Rows) →
     numbers_at place (rows_with_key column key (rows ++ more))
     ≡ numbers_at place (rows_with_key column key rows) ++ numbers_at place (rows_with_key column key more)
 numbers-append column place key rows more =

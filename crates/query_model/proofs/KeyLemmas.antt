@@ -65,7 +65,7 @@ put-twice s (x ∷ keys) = by_order (order s x)
     ∙ sym (put-greater s x keys e))
 
 -- two keys put in either order
-put-swap : (s k : Key) (keys : List Key) → order s k ≡ Less → with_key s (with_key k keys) ≡ with_key k (with_key s keys)
+pub put-swap : (s k : Key) (keys : List Key) → order s k ≡ Less → with_key s (with_key k keys) ≡ with_key k (with_key s keys)
 put-swap s k [] e = put-less s k [] e ∙ sym (put-greater k s [] (above s k e))
 put-swap s k (x ∷ keys) e = by_order (order k x)
     (λ kx. let sx : order s x ≡ Less = nat_list_cmp_total.trans s k x e kx in

@@ -15,3 +15,4 @@ pub mod RoomLemmas
 pub mod AdequateLemmas
 pub mod AskedLemmas
 pub mod RefusalLemmas
+pub mod ProgramLemmas

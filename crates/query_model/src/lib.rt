@@ -1,11 +1,14 @@
 //! What a query speaks of: cells and rows, tables and their columns, plans, and how long the buffers of a column are.
 #![tactic(auto)]
 
+mod answer;
 mod bounds;
 mod cell;
 mod cells;
 mod column;
 mod columns;
+mod filter;
+mod keys;
 mod kind;
 mod laws;
 mod lengths;
@@ -16,15 +19,18 @@ mod plan;
 mod query_laws;
 mod request_laws;
 mod row;
+mod sums;
 mod test;
 mod tests_list;
 mod text;
 
+pub use answer::{answer_of, groups_of, merged};
 pub use bounds::{MOST_BATCH_ROWS, MOST_COLUMNS, MOST_ROWS, MOST_TESTS, MOST_TEXT_BYTES};
 pub use cell::Cell;
 pub use cells::Cells;
 pub use column::Column;
 pub use columns::Columns;
+pub use filter::{meeting, meets};
 pub use kind::Kind;
 pub use laws::{columns_are_read_back, columns_have_their_lengths};
 pub use lengths::{column_lengths, validity_length};

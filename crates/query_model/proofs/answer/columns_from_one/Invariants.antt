@@ -1,0 +1,7 @@
+-- The numbers so far.
+use Rattle.std.proofs.Common.{◌≡◌}
+use Rattle.std.specs.List.{range_with_len}
+use Rattle.query_model.proofs.answer.columns_from_one.Given as goal
+
+abbrev pub invariant-loop-place : goal.invariant-loop-place
+invariant-loop-place l = l.columns.items ≡ range_with_len 1 l.place
