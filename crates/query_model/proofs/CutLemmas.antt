@@ -17,7 +17,7 @@ use Rattle.query_model.proofs.BatchLemmas.{batches_whole}
 use Rattle.query_model.proofs.GroupLemmas.{each-part, groups_cut}
 
 -- rows that met the tests, part by part
-output_cut : (output : Output) (parts : List (List (List Cell))) →
+pub output_cut : (output : Output) (parts : List (List (List Cell))) →
     merged output (flat_map (output_of output) parts) ≡ output_of output (flat_map (λ part. part) parts)
 output_cut (Select picks) parts = sym (each-part (map (picked picks)) (λ part. part) refl (map-append (picked picks)) parts)
 output_cut (Group key sums) parts = groups_cut key sums parts

@@ -1,12 +1,12 @@
 -- Steps of the programs that compute the definitions.
-use Rattle.std.specs.Prelude.{◌≡◌, ◌≤◌, ◌<◌, ◌+◌, ℕ, suc, ℤ, true, false, nat_eq, List, [], ◌∷◌, ◌++◌, map, length, take, drop, get_or, cond, Option, Some, None, option_to_list, refl}
+use Rattle.std.specs.Prelude.{◌≡◌, ◌≤◌, ◌<◌, ◌+◌, ℕ, suc, ℤ, true, false, nat_eq, List, [], ◌∷◌, ◌++◌, map, flat_map, length, take, drop, get_or, cond, Option, Some, None, option_to_list, refl}
 use Rattle.std.specs.Cmp.Lexicographic.{pointwise}
 use Rattle.std.specs.List.{cons_option, range_with_len}
 use Rattle.std.specs.declared.cmp.Ordering.{Ordering}
 use Rattle.std.specs.declared.cmp.Ordering.TheVariants.{Less, Equal, Greater}
 use Rattle.std.specs.FinMap.{slice_cmp-IsAntisymmetric, nat_cmp-IsAntisymmetric}
 use Rattle.std.proofs.Common.{arith, sym, ap, ◌∙◌, append_assoc, drop-cons}
-use Rattle.std.proofs.lemmas.List.{take-append-drop, map_more, take_more, take_all, drop_all, append-nil}
+use Rattle.std.proofs.lemmas.List.{take-append-drop, flat_map_more, map_more, take_more, take_all, drop_all, append-nil}
 use Rattle.std.proofs.lemmas.List.FromFn.{map-range_with_len_more}
 use Rattle.query_model.specs.declared.cell.Cell.{Cell}
 use Rattle.query_model.specs.Answer.{with_key, distinct, key_of, rows_with_key, number_of, numbers_at}
@@ -34,6 +34,14 @@ range-more n =
     ap (λ front. front ++ (n + 1) ∷ []) (sym (map-itself (range_with_len 1 n)))
     ∙ sym (map-range_with_len_more (λ (i : ℕ). i) 1 n (n + 1) next)
     ∙ map-itself (range_with_len 1 (n + 1))
+
+-- a batch more
+pub kept-more : {X A : Type 0} (f : X → List A) (g : ℕ → X) (n : ℕ) →
+    flat_map f (map g (range_with_len 1 n)) ++ f (g (n + 1)) ≡ flat_map f (map g (range_with_len 1 (n + 1)))
+kept-more f g n =
+    let next : 1 + n ≡ n + 1 = omega arith in
+    flat_map_more f [] (map g (range_with_len 1 n)) (g (n + 1))
+    ∙ ap (flat_map f) (sym (map-range_with_len_more g 1 n (n + 1) next))
 
 -- an element more
 pub map-pushed : {X Y : Type 0} (f : X → Y) (xs : List X) (i : ℕ) (x : X) → i < length xs → x ≡ get_or xs i x

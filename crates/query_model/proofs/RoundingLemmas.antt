@@ -1,12 +1,13 @@
 -- Longer buffers are charged no less.
-use Rattle.std.proofs.Common.{◌≡◌, ℕ, zero, suc, ◌+◌, ◌^◌, ◌≤◌, ◌∙◌, refl, arith, inl, inr, leb, ltb, true, false, lit≤}
-use Rattle.std.proofs.Common.{ap}
+use Rattle.std.proofs.Common.{◌≡◌, ℕ, zero, suc, ◌+◌, ◌^◌, ◌≤◌, ◌<◌, ◌∙◌, refl, arith, inl, inr, leb, ltb, true, false, lit≤}
+use Rattle.std.proofs.Common.{ap, sym}
 use Rattle.std.specs.Prelude.{List, ◌∷◌, map, filter, sum, nat_lt, cond}
 use Rattle.std.proofs.lemmas.Bool.{cases_lt}
 use Rattle.std.proofs.lemmas.Bool.Decides.{nat_tests}
 use Rattle.std.proofs.Math.Nat.{pow-le-pow_right}
 use Rattle.std.proofs.lemmas.List.Sums.{sum_by-cons}
 use Rattle.mem_num.specs.Rounded.{power_from, rounded_size}
+use Rattle.mem_num.specs.declared.bounds.TheConstants.{LARGEST}
 use Rattle.mem_num.specs.declared.rounding.Rounding.TheVariants.{Power}
 use Rattle.query_model.specs.Buffers.{sizes_of}
 
@@ -23,7 +24,7 @@ power_from-lower (suc more) k n = elim (cases_lt (2 ^ k) n) [
 ]
 
 -- the last one is the greatest
-power_from-upper : (more k n : ℕ) → power_from more k n ≤ 2 ^ (k + more)
+pub power_from-upper : (more k n : ℕ) → power_from more k n ≤ 2 ^ (k + more)
 unfolding power_from
 power_from-upper zero k n = let same : 2 ^ k ≡ 2 ^ (k + 0) = ap (λ i. 2 ^ i) (omega arith) in omega (arith, same)
 power_from-upper (suc more) k n = elim (cases_lt (2 ^ k) n) [
@@ -65,6 +66,19 @@ rounded_size-rises (suc n) (suc m) h = elim (cases_lt (suc m) (2 ^ 24)) [
             rw t (omega (arith, upper, le)))
         | inr large ↦ (let t : ltb (suc n) (2 ^ 24) ≡ false = grind (arith, nat_tests) in rw t h)
       ]))
+]
+
+-- what is charged more than the largest size is charged what it is long
+pub charged_whole : (n : ℕ) → LARGEST < rounded_size Power n → n ≡ rounded_size Power n
+unfolding rounded_size
+charged_whole zero large = absurd (omega (arith, large))
+charged_whole (suc n) large = elim (cases_lt (suc n) (2 ^ 24)) [
+  | inl lt ↦ (let t : ltb (suc n) (2 ^ 24) ≡ true = grind (arith, nat_tests) in
+      let upper : power_from 23 1 (suc n) ≤ 2 ^ 24 = power_from-upper 23 1 (suc n) in
+      let same : rounded_size Power (suc n) ≡ power_from 23 1 (suc n) = ap (λ b. cond b (power_from 23 1 (suc n)) (suc n)) t in
+      absurd (omega (arith, upper, same, large)))
+  | inr le ↦ (let t : ltb (suc n) (2 ^ 24) ≡ false = grind (arith, nat_tests) in
+      sym (ap (λ b. cond b (power_from 23 1 (suc n)) (suc n)) t))
 ]
 
 -- a buffer of no bytes is charged nothing

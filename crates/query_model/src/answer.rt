@@ -122,6 +122,3 @@ fn group_of(
     }
     Ok(Cells::new(cells))
 }
-
-#[cfg(test)]
-mod tests;

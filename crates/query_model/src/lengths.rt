@@ -44,7 +44,7 @@ fn texts_length(cells: &[Cell]) -> u64
 }
 
 // How many bytes of text a cell has.
-fn text_length(cell: &Cell) -> u64
+pub(crate) fn text_length(cell: &Cell) -> u64
     ensures { result ≡ spec.text_length cell.now }
 {
     match cell {
