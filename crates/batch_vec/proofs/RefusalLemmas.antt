@@ -17,7 +17,7 @@ use Rattle.mem_buf.specs.Changes.{KeepsNames}
 use Rattle.mem_buf.specs.MemoryCall.{MemoryCall, Grant}
 use Rattle.mem_buf.specs.Storing.{IsRefusedAt, IsRefusedStore}
 use Rattle.mem_buf.specs.TokenView.{size_for}
-use Rattle.mem_buf.proofs.ChainLemmas.{MakesCalls-names, MakesCalls-only}
+use Rattle.mem_buf.proofs.ChainLemmas.{MakesCalls-cut, MakesCalls-names, MakesCalls-only}
 
 -- what holds of all holds of one in their midst
 All-midst : {X : Type 0} (P : X → Type 0) (xs : List X) (y : X) (ys : List X) → All P (xs ++ y ∷ ys) → P y
@@ -31,14 +31,6 @@ known_before None new told kept is = tt
 known_before (Some limit) new told kept is = subst (λ known. IfSome known (λ l. told ≡ l)) (kept limit refl) is
 
 module _ {Token Hold : Type 0} (memory : MemoryModel Token Hold) (at : AllocId) where
-  -- a chain of two parts is cut between them
-  MakesCalls-cut : (first second : List MemoryCall) (old new : Token) → MakesCalls memory (first ++ second) old new
-      → (middle : Token) × MakesCalls memory first old middle × MakesCalls memory second middle new
-  MakesCalls-cut [] second old new made = (old, refl, made)
-  MakesCalls-cut (call ∷ first) second old new made =
-      let rest = MakesCalls-cut first second made.0 new made.2 in
-      (rest.0, (made.0, made.1, rest.1), rest.2)
-
   -- requests that are granted keep the pins
   grants_pins : (granted : List (ℕ × Ref)) (old new : Token) → MakesCalls memory (grants at granted) old new
       → (memory.view new).pins ≡ (memory.view old).pins
@@ -60,8 +52,8 @@ module _ {Token Hold : Type 0} (memory : MemoryModel Token Hold) (at : AllocId) 
         → MakesCalls memory calls old new → is.asked ≡ Grant at request (Err refused) ∷ [] → IsAsked refused
     asked_last refused request calls is made one =
         let all = subst (λ list. MakesCalls memory list old new) is.order made in
-        let first = MakesCalls-cut (grants at is.granted) (is.asked ++ is.returned) old new all in
-        let second = MakesCalls-cut is.asked is.returned first.0 new first.2 in
+        let first = MakesCalls-cut memory (grants at is.granted) (is.asked ++ is.returned) old new all in
+        let second = MakesCalls-cut memory is.asked is.returned first.0 new first.2 in
         record {
           token = first.0;
           after = second.0;

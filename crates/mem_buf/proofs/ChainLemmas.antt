@@ -56,6 +56,14 @@ module _ {Token Hold : Type 0} (memory : MemoryModel Token Hold) where
       let one : MakesCalls memory (call ∷ []) old new = subst (λ list. MakesCalls memory list old new) same made in
       subst (λ token. MakesCall memory call old token) (sym one.2) one.1
 
+  -- a chain of two parts is cut between them
+  pub MakesCalls-cut : (first second : List MemoryCall) (old new : Token) → MakesCalls memory (first ++ second) old new
+      → (middle : Token) × MakesCalls memory first old middle × MakesCalls memory second middle new
+  MakesCalls-cut [] second old new made = (old, refl, made)
+  MakesCalls-cut (call ∷ first) second old new made =
+      let rest = MakesCalls-cut first second made.0 new made.2 in
+      (rest.0, (made.0, made.1, rest.1), rest.2)
+
   -- what could be named before some calls can be named after them
   pub MakesCalls-names : (calls : List MemoryCall) (old new : Token) → MakesCalls memory calls old new
       → KeepsNames (memory.view old) (memory.view new)

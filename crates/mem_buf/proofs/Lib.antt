@@ -6,3 +6,4 @@ pub mod PayLemmas
 pub mod GiveBackLemmas
 pub mod StoreLemmas
 pub mod StoringLemmas
+pub mod MovingLemmas

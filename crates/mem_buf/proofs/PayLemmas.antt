@@ -11,10 +11,10 @@ use Rattle.mem_num.specs.declared.rounding.Rounding.TheVariants.{Power}
 use Rattle.mem_num.specs.declared.alloc_id.AllocId.{AllocId}
 use Rattle.mem_num.specs.declared.buffer_ref.Ref.{Ref}
 use Rattle.mem_num.specs.declared.buffer_refused.BufferRefused.{BufferRefused}
-use Rattle.mem_buf.specs.TokenView.{TokenView, CanName, size_for, bytes_for, turns_for, charged_for}
+use Rattle.mem_buf.specs.TokenView.{TokenView, CanName, size_for, bytes_for, turns_for, charged_for, is_empty, turns_to_share}
 use Rattle.mem_buf.specs.MemoryCall.{Grant}
 use Rattle.mem_buf.specs.Changes.{ChangesView, KeepsNames}
-use Rattle.mem_buf.specs.Callers.{CanPay}
+use Rattle.mem_buf.specs.Callers.{CanPay, CanShare}
 
 -- no buffer is charged more than the largest
 pub charged_few : (size : ℕ) → charged_for size ≤ LARGEST
@@ -33,6 +33,18 @@ CanPay-few view at requests named bytes turns = record {
     arith,
     sum_by-le (turns_for view at) 1 requests (λ k d within.
         cond_both (bytes_for view at (get_or requests k d) == 0) 0 1 (λ turns. turns ≤ 1) (λ _. omega arith) (λ _. omega arith)),
+  );
+}
+
+-- as many further references as there are turns can be paid for
+pub CanShare-few : (view : TokenView) (target : AllocId) (references : List Ref) → CanName view target
+    → length references ≤ view.turns → CanShare view target references
+CanShare-few view target references named turns = record {
+  named = named;
+  turns = omega (
+    arith,
+    sum_by-le turns_to_share 1 references (λ k d within.
+        cond_both (is_empty (get_or references k d)) 0 1 (λ turns. turns ≤ 1) (λ _. omega arith) (λ _. omega arith)),
   );
 }
 

@@ -7,4 +7,5 @@ pub mod Chain
 pub mod View
 pub mod Callers
 pub mod Storing
+pub mod Moving
 pub mod Listed

@@ -3,7 +3,8 @@
 use super::*;
 use crate::listed_answer::ListedAnswer::{Done, InUse, Nodes};
 use mem_num::{
-    AllocId, BufferRefused, ChildRefused, Closed, Full, MAX_LIMIT, NotClosed, Ref, TooLarge,
+    AllocId, BufferRefused, ChildRefused, Closed, Full, MAX_LIMIT, NotClosed, Ref, RefRefused,
+    TooLarge,
 };
 use std::alloc::AllocGlobal;
 use std::process::Abort;
@@ -193,6 +194,55 @@ fn vectors_before_a_refused_one_are_given_back(rt: HostRuntime) -> Result<(), Fa
     }
     assert_eq!(rt; token.taken, 3);
     assert_eq!(rt; token.chunks, 1);
+    Ok(())
+}
+
+// Moves three buffers at most to the scan, for which a listed token always pays.
+fn move_few(
+    rt: &(impl Abort + AllocGlobal),
+    token: &mut Listed,
+    bufs: Vec<ArrowBuf<Ref>>,
+) -> Result<Vec<ArrowBuf<Ref>>, RefRefused> {
+    if bufs.len() > 3 {
+        give_back(&ListedMemory, token, bufs);
+        return Err(RefRefused::NoMemory);
+    }
+    move_buffers(rt.alloc(), &ListedMemory, token, SCAN, bufs)
+}
+
+#[test]
+fn buffers_move_with_their_bytes(rt: HostRuntime) -> Result<(), Fail> {
+    let mut token = listed(&rt, &[])?;
+    match store_words(&rt, &mut token)? {
+        Ok(bufs) => match move_few(&rt, &mut token, bufs) {
+            Ok(moved) => {
+                assert_eq!(rt; moved.len(), 3);
+                for (buf, word) in moved.iter().zip(WORDS) {
+                    assert_eq!(rt; buf.view.bytes(), word);
+                    assert_eq!(rt; buf.hold.alloc, SCAN);
+                }
+                give_back(&ListedMemory, &mut token, moved);
+            }
+            Err(_) => panic!(rt; "no memory"),
+        },
+        Err(_) => panic!(rt; "no memory"),
+    }
+    Ok(())
+}
+
+#[test]
+fn buffers_before_one_that_stays_are_given_back(rt: HostRuntime) -> Result<(), Fail> {
+    // Three words are granted, the first is transferred and released, the empty one moves, and the third isn't transferred.
+    let done = Done(true);
+    let mut token = listed(&rt, &[done, done, done, done, done, ListedAnswer::NoMemory])?;
+    match store_words(&rt, &mut token)? {
+        Ok(bufs) => match move_few(&rt, &mut token, bufs) {
+            Ok(_) => panic!(rt; "moved"),
+            Err(refused) => assert_eq!(rt; refused, RefRefused::NoMemory),
+        },
+        Err(_) => panic!(rt; "no memory"),
+    }
+    assert_eq!(rt; token.taken, 6);
     Ok(())
 }
 

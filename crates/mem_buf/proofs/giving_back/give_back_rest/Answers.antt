@@ -2,7 +2,7 @@
 use Rattle.std.proofs.Common.{◌≡◌, ◌+◌, ◌∷◌, length, arith, rules, ap}
 use Rattle.std.specs.Vec.Iter.{into_iter_items, into_iter_len}
 use Rattle.mem_buf.proofs.GiveBackLemmas.{HasGivenBack-one}
-use Rattle.mem_buf.proofs.giving_back.give_back.Goals as goal
+use Rattle.mem_buf.proofs.giving_back.give_back_rest.Goals as goal
 
 pub loop-buf-preserved : goal.loop-buf-preserved
 loop-buf-preserved g c =
