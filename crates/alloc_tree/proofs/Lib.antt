@@ -33,3 +33,5 @@ mod SoloShareLemmas
 mod SoloCallLemmas
 mod SoloRunLemmas
 pub mod SoloPayLemmas
+pub mod SoloStepLemmas
+pub mod SoloPlannedLemmas

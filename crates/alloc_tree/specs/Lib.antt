@@ -10,3 +10,4 @@ pub mod Fields
 pub mod SoloView
 pub mod SoloMeaning
 pub mod SoloCalls
+pub mod SoloPlanned

@@ -15,5 +15,8 @@ mod walk;
 pub use name::Name;
 pub use name_refused::NameRefused;
 pub use names::Names;
-pub use solo::{Solo, calls_of_one_thread_are_calls_of_its_tree};
+pub use solo::{
+    Solo, calls_of_one_thread_are_calls_of_its_tree,
+    calls_that_were_planned_leave_what_the_plan_leaves,
+};
 pub use solo_tree::{SoloTree, every_tree_counts_its_calls, every_tree_is_lawful};

@@ -4,7 +4,9 @@ mod laws;
 mod told;
 
 use crate::solo_tree::{SoloTree, every_tree_counts_its_calls, every_tree_is_lawful};
-pub use laws::calls_of_one_thread_are_calls_of_its_tree;
+pub use laws::{
+    calls_of_one_thread_are_calls_of_its_tree, calls_that_were_planned_leave_what_the_plan_leaves,
+};
 use mem_buf::Memory;
 use mem_num::{AllocId, BufferRefused, ChildRefused, NotClosed, Ref, RefRefused};
 use told::{empty_buffer, further, gone, moved};
