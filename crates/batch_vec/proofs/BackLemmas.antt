@@ -30,7 +30,7 @@ two_buffers kind.Int cells = refl
 two_buffers kind.Sum cells = refl
 two_buffers kind.Text cells = refl
 
-buffers_of_columns : (column : ℕ) (kinds : List Kind) (rows : List (List Cell)) → length (bytes_from column kinds rows) ≡ 2 * length kinds
+pub buffers_of_columns : (column : ℕ) (kinds : List Kind) (rows : List (List Cell)) → length (bytes_from column kinds rows) ≡ 2 * length kinds
 buffers_of_columns column [] rows = omega arith
 buffers_of_columns column (kind ∷ kinds) rows =
     let both = length-append (column_bytes kind (column_of column rows)) (bytes_from (column + 1) kinds rows) in
@@ -57,7 +57,7 @@ past_two kind.Sum cells rest n = refl
 past_two kind.Text cells rest n = refl
 
 -- the two of a column
-bytes_there : (column : ℕ) (kinds : List Kind) (rows : List (List Cell)) (i : ℕ) (k : Kind) → i < length kinds
+pub bytes_there : (column : ℕ) (kinds : List Kind) (rows : List (List Cell)) (i : ℕ) (k : Kind) → i < length kinds
     → get_or (bytes_from column kinds rows) (2 * i) [] ∷ get_or (bytes_from column kinds rows) (2 * i + 1) [] ∷ []
     ≡ column_bytes (get_or kinds i k) (column_of (column + i) rows)
 bytes_there column [] rows i k within = absurd (omega arith)

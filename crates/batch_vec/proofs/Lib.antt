@@ -11,3 +11,7 @@ pub mod BackLemmas
 pub mod FittingLemmas
 pub mod RefusalLemmas
 pub mod StoreLemmas
+pub mod MovingLemmas
+pub mod UnpickedLemmas
+pub mod PickingLemmas
+pub mod PickedLemmas

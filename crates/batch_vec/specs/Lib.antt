@@ -4,3 +4,4 @@ pub mod Numbers
 pub mod Offsets
 pub mod Columns
 pub mod Batches
+pub mod Moving

@@ -3,8 +3,8 @@
 use super::*;
 use crate::numbers::sum_bytes;
 use mem_buf::ListedAnswer::{Done, Full as IsFull};
-use mem_buf::{Listed, ListedAnswer, ListedMemory};
-use mem_num::{AllocId, Full, Ref};
+use mem_buf::{ArrowBuf, Listed, ListedAnswer, ListedMemory, give_back};
+use mem_num::{AllocId, Full, NoMemory, Ref};
 use query_model::{Column, Kind, Text};
 use row_text::{Rows, RowsSlice, answer_text, read_rows};
 use std::alloc::AllocGlobal;
@@ -184,5 +184,113 @@ fn a_refusal_gives_back_what_was_stored(rt: HostRuntime) -> Result<(), Fail> {
     // Two were granted, one was refused, and of the two releases one took the last answer.
     assert_eq!(rt; token.chunks, 2);
     assert_eq!(rt; token.taken, 4);
+    Ok(())
+}
+
+const PROJECT: AllocId = AllocId(3);
+
+// Moves a batch of a few columns to the project, which the token pins from then on.
+fn move_few(
+    rt: &impl AllocGlobal,
+    token: &mut Listed,
+    batch: Batch<Ref>,
+) -> Result<Batch<Ref>, NoMemory> {
+    if token.pinned.push(PROJECT).is_err() || batch.buffers.len() > 8 {
+        release_batch(&ListedMemory, token, batch);
+        return Err(NoMemory);
+    }
+    move_batch(rt.alloc(), &ListedMemory, token, PROJECT, batch)
+}
+
+#[test]
+fn a_batch_moves_with_its_rows(rt: HostRuntime) -> Result<(), Fail> {
+    let rows = read(&rt, b"city,mm\noslo,3\nbergen,\n")?;
+    let mut token = listed(&rt, &[])?;
+    match store(&rt, &mut token, &rows.as_slice()) {
+        Ok(batch) => match move_few(&rt, &mut token, batch) {
+            Ok(moved) => {
+                for buffer in &moved.buffers {
+                    assert_eq!(rt; buffer.hold.alloc, PROJECT);
+                }
+                let text = printed(&rt, &moved);
+                release_batch(&ListedMemory, &mut token, moved);
+                assert_eq!(rt; text?.as_slice(), b"city,mm\noslo,3\nbergen,\n".as_slice());
+            }
+            Err(_) => panic!(rt; "no memory"),
+        },
+        Err(_) => panic!(rt; "refused"),
+    }
+    Ok(())
+}
+
+// The two columns of a batch, the second first.
+fn swapped(rt: &impl AllocGlobal, batch: Batch<Ref>) -> Result<Picked<Ref>, Batch<Ref>> {
+    if batch.kinds().len() != 2 {
+        return Err(batch);
+    }
+    pick_columns(rt.alloc(), &[1, 0], batch)
+}
+
+// The second of two columns.
+fn second_alone(rt: &impl AllocGlobal, batch: Batch<Ref>) -> Result<Picked<Ref>, Batch<Ref>> {
+    if batch.kinds().len() != 2 {
+        return Err(batch);
+    }
+    pick_columns(rt.alloc(), &[1], batch)
+}
+
+/// Whether buffers have these chunks, in order.
+fn have_chunks(buffers: &[ArrowBuf<Ref>], chunks: &[u32]) -> bool {
+    buffers.len() == chunks.len()
+        && buffers
+            .iter()
+            .zip(chunks)
+            .all(|(buffer, chunk)| buffer.hold.chunk == *chunk)
+}
+
+#[test]
+fn picked_columns_come_in_the_order_of_the_picks(rt: HostRuntime) -> Result<(), Fail> {
+    let rows = read(&rt, b"city,mm\noslo,3\nbergen,\n")?;
+    let mut token = listed(&rt, &[])?;
+    match store(&rt, &mut token, &rows.as_slice()) {
+        Ok(batch) => match swapped(&rt, batch) {
+            Ok(Picked { batch, rest }) => {
+                assert_eq!(rt; batch.kinds(), [Kind::Int, Kind::Text].as_slice());
+                assert!(rt; have_chunks(batch.buffers.as_slice(), &[3, 4, 1, 2]));
+                assert!(rt; have_chunks(rest.as_slice(), &[]));
+                release_batch(&ListedMemory, &mut token, batch);
+                give_back(&ListedMemory, &mut token, rest);
+            }
+            Err(batch) => {
+                release_batch(&ListedMemory, &mut token, batch);
+                panic!(rt; "no memory");
+            }
+        },
+        Err(_) => panic!(rt; "refused"),
+    }
+    Ok(())
+}
+
+#[test]
+fn other_columns_are_left(rt: HostRuntime) -> Result<(), Fail> {
+    let rows = read(&rt, b"city,mm\noslo,3\nbergen,\n")?;
+    let mut token = listed(&rt, &[])?;
+    match store(&rt, &mut token, &rows.as_slice()) {
+        Ok(batch) => match second_alone(&rt, batch) {
+            Ok(Picked { batch, rest }) => {
+                assert_eq!(rt; batch.len(), 2);
+                assert_eq!(rt; batch.kinds(), [Kind::Int].as_slice());
+                assert!(rt; have_chunks(batch.buffers.as_slice(), &[3, 4]));
+                assert!(rt; have_chunks(rest.as_slice(), &[1, 2]));
+                release_batch(&ListedMemory, &mut token, batch);
+                give_back(&ListedMemory, &mut token, rest);
+            }
+            Err(batch) => {
+                release_batch(&ListedMemory, &mut token, batch);
+                panic!(rt; "no memory");
+            }
+        },
+        Err(_) => panic!(rt; "refused"),
+    }
     Ok(())
 }
