@@ -8,11 +8,10 @@ ghost use Rattle.query_model.specs.Fit.{is_named, kind_at};
 ghost use Rattle.plan_text.specs.Columns.{place_of};
 ghost use Rattle.plan_text.specs.Values.{Reads, each_of};
 
-use query_model::MOST_COLUMNS;
 use crate::column::read_column;
 use crate::refused::PlanRefused;
 use crate::value::items_between;
-use query_model::{Column, Columns, Kind};
+use query_model::{Column, Columns, Kind, MOST_COLUMNS};
 use std::alloc::Global;
 use toml::Value;
 

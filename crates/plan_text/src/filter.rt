@@ -4,11 +4,10 @@ ghost use Rattle.toml.specs.View.{view};
 ghost use Rattle.plan_text.specs.Tests.{test_of, tests_of};
 ghost use Rattle.plan_text.specs.Values.{Reads, each_of};
 
-use query_model::{MOST_COLUMNS, MOST_TESTS};
 use crate::refused::PlanRefused;
 use crate::test::read_test;
 use crate::value::items_between;
-use query_model::{Column, Tests};
+use query_model::{Column, MOST_COLUMNS, MOST_TESTS, Tests};
 use std::alloc::Global;
 use toml::Value;
 

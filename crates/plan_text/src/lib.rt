@@ -19,7 +19,9 @@ mod value;
 
 pub use bounds::USUAL_BATCH_ROWS;
 pub use laws::{bytes_are_one_plan, plans_are_fit};
-pub use query_model::{Cell, Column, Columns, Kind, Op, Output, Picks, Plan, Test, Tests, Text};
-pub use query_model::{MOST_BATCH_ROWS, MOST_COLUMNS, MOST_TESTS};
+pub use query_model::{
+    Cell, Column, Columns, Kind, MOST_BATCH_ROWS, MOST_COLUMNS, MOST_TESTS, Op, Output, Picks,
+    Plan, Test, Tests, Text,
+};
 pub use read::read_plan;
 pub use refused::PlanRefused;

@@ -5,11 +5,10 @@ ghost use Rattle.toml.specs.View.{table_view, view};
 ghost use Rattle.plan_text.specs.Outputs.{group_of, output_at, select_of};
 ghost use Rattle.plan_text.specs.Values.{Reads};
 
-use query_model::MOST_COLUMNS;
 use crate::picks::{Allowed, pick_of, read_picks};
 use crate::refused::PlanRefused;
 use crate::value::value_at;
-use query_model::{Column, Output};
+use query_model::{Column, MOST_COLUMNS, Output};
 use std::alloc::Global;
 use toml::{Table, Value};
 

@@ -5,11 +5,10 @@ ghost use Rattle.query_model.specs.Fit.{are_different};
 ghost use Rattle.plan_text.specs.Columns.{allows, pick_of, picks_of};
 ghost use Rattle.plan_text.specs.Values.{Reads, each_of};
 
-use query_model::MOST_COLUMNS;
 use crate::columns::{kind_at, place_of};
 use crate::refused::PlanRefused;
 use crate::value::items_between;
-use query_model::{Column, Kind, Picks};
+use query_model::{Column, Kind, MOST_COLUMNS, Picks};
 use std::alloc::Global;
 use toml::Value;
 

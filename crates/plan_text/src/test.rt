@@ -4,13 +4,12 @@ ghost use Rattle.toml.specs.View.{table_view, view};
 ghost use Rattle.plan_text.specs.Tests.{cell_of, op_at, place_at, test_of, test_with};
 ghost use Rattle.plan_text.specs.Values.{Reads};
 
-use query_model::MOST_COLUMNS;
 use crate::columns::{kind_at, place_of};
 use crate::keys::Keys;
 use crate::op::op_of;
 use crate::refused::PlanRefused;
 use crate::value::{text_at, value_at};
-use query_model::{Cell, Column, Kind, Op, Test, Text};
+use query_model::{Cell, Column, Kind, MOST_COLUMNS, Op, Test, Text};
 use std::alloc::Global;
 use toml::{Table, Value};
 

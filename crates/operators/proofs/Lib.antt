@@ -1,0 +1,19 @@
+-- The lemmas of this crate, those first that others stand on.
+pub mod PlaceLemmas
+pub mod TextLemmas
+pub mod FilterLemmas
+pub mod GatherLemmas
+pub mod InsteadLemmas
+pub mod AddLemmas
+pub mod KeyLemmas
+pub mod RisingLemmas
+pub mod MovingLemmas
+pub mod OrderLemmas
+pub mod GroupLemmas
+pub mod MixLemmas
+pub mod AddedLemmas
+pub mod GroupRowLemmas
+pub mod SummableLemmas
+pub mod MergeLemmas
+pub mod PartLemmas
+pub mod ListedLemmas
