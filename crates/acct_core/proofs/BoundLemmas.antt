@@ -1,4 +1,4 @@
--- No level holds more than all sizes and all reservations together.
+-- No level holds more than all sizes and all reservations together, and a reservation that a claim pays for counts once.
 use Rattle.std.proofs.Common.{zero, suc, ◌≡◌, ℕ, ◌+◌, ◌<◌, ◌≤◌, ◌≢◌, max, Bool, true, false, cond, ◌&&◌, is_none, List, ◌++◌, map, get_or, length, ◌==◌, eq-eqb, ne_eqb, eqb-true, Option, Some, None, sum_by, arith, refl, sym, ap, ◌∙◌, subst, ⊎_elim}
 use Rattle.std.proofs.lemmas.Option.{same_Some}
 use Rattle.std.proofs.lemmas.Bool.{true≢false, cases_eq, cases_Bool, and_parts}
@@ -6,12 +6,12 @@ use Rattle.std.proofs.lemmas.List.Elements.{All-from_get_or, All-weaker}
 use Rattle.std.proofs.lemmas.List.Sums.{sum-map, sum_by-append, sum_by-le-sum_by}
 use Rattle.acct_core.specs.declared.shape.Shape.{Shape}
 use Rattle.acct_core.specs.declared.row.Row.{Row}
-use Rattle.acct_core.specs.Phases.{Phase, charged, pending_subtraction, size_of}
+use Rattle.acct_core.specs.Phases.{Phase, pending_subtraction, size_of}
 use Rattle.acct_core.specs.Phases.Phase.{Free, In, Up, Held, Failed, Down, Bounced}
 use Rattle.acct_core.specs.Claims.{Claim, Account, own_charge, no_claim}
 use Rattle.acct_core.specs.Rows.{blank, row, shapes, is_at}
 use Rattle.mem_model.specs.WorstCase.{worst_case}
-use Rattle.acct_core.specs.Bounds.{sizes_of, open_reservation, reservations_of}
+use Rattle.acct_core.specs.Bounds.{sizes_of, own_size, own_sizes_of, open_reservation, reservations_of}
 use Rattle.acct_core.specs.Balance.{child_count}
 use Rattle.acct_core.specs.NodeTree.{IsNodeTree, IsOpen}
 use Rattle.acct_core.proofs.FitsLemmas.{ClaimFits, HeldLaw}
@@ -111,9 +111,14 @@ level node Bounced = node
 abbrev pub Item : Type 0
 Item = ℕ × ℕ
 
+-- what a claim has in held numbers by itself; where a child stands on it, the child's reservation counts in its place
+abbrev pub has_own : Option ℕ → Phase → ℕ
+has_own under (Down size next pending) = pending
+has_own under phase = cond (is_none under) (has phase) 0
+
 -- a claim as an amount at a level
 abbrev pub claim_item : Claim → Item
-claim_item c = (level c.node c.phase, has c.phase)
+claim_item c = (level c.node c.phase, has_own c.under c.phase)
 
 -- an open reservation as an amount at the parent
 abbrev pub row_rest : Row → Option ℕ → Item
@@ -155,18 +160,24 @@ part true true x y z h = omega arith
 part true false x y z h = omega arith
 part false b x y z h = omega arith
 
+-- an amount of a claim on which no child stands, where it counts, is within it
+part_bare : (a b : Bool) (x : ℕ) → cond (a && b) x 0 + 0 ≤ cond a (cond b x 0) 0
+part_bare true true x = omega arith
+part_bare true false x = omega arith
+part_bare false b x = omega arith
+
 -- what a claim is charged at n, with what it has to subtract there, is within its amount at n
 claim_here : (n node : ℕ) (under : Option ℕ) (phase : Phase) →
     own_charge n (record { node = node; under = under; phase = phase }) + pending_subtraction n phase
     ≤ item_at n (claim_item (record { node = node; under = under; phase = phase }))
 claim_here n node under (Down size next pending) = let a = part (node == n) (is_none under) 0 0 0 (omega arith) in
     let b = zero_cond (node == n) in omega arith
-claim_here n node under phase = go (node == n) (is_none under) (charged phase)
-  where
-    go : (a b : Bool) (x : ℕ) → cond (a && b) x 0 + 0 ≤ cond a x 0
-    go true true x = omega arith
-    go true false x = omega arith
-    go false b x = omega arith
+claim_here n node under Free = part_bare (node == n) (is_none under) 0
+claim_here n node under In = part_bare (node == n) (is_none under) 0
+claim_here n node under (Up size next pending forced steps) = part_bare (node == n) (is_none under) size
+claim_here n node under (Held size forced steps) = part_bare (node == n) (is_none under) size
+claim_here n node under (Failed size forced steps) = part_bare (node == n) (is_none under) size
+claim_here n node under Bounced = part_bare (node == n) (is_none under) 0
 
 -- what a row counts for at n is within its held number and its reservation
 row_here : (n h : ℕ) (r : Row) → r.held ≤ h → child_count n r ≤ of_child r.shape n h + item_at n (row_item r)
@@ -232,15 +243,15 @@ module _ (a : Account) (s : HeldLaw a) where
           (λ (no : (sh j).is_open && is_at (sh j).parent n ≡ false). rw no (omega arith))
           (cases_Bool ((sh j).is_open && is_at (sh j).parent n))
 
-  -- a node holds at most all sizes and all open reservations
-  pub bounded : (n : ℕ) → (row a.rows n).held ≤ sum_by (λ c. size_of c.phase) a.claims + sum_by open_reservation a.rows
-  bounded n = ⊎_elim
+  -- a node holds at most the sizes of the claims on which no child stands, and all open reservations
+  pub bounded_once : (n : ℕ) → (row a.rows n).held ≤ sum_by own_size a.claims + sum_by open_reservation a.rows
+  bounded_once n = ⊎_elim
       (λ (o : IsOpen sh n).
       let w = within_below (length a.rows) n (omega arith) o in
       let u = sum_by-le-sum_by (below sh n) (λ (x : Item). x.1) (items a) (λ (x : Item). cut (on_line sh x.0 x.0 n) x.1) in
       let i = split (λ (x : Item). x.1) a in
-      let c = sum_by-le_each (λ (c : Claim). has c.phase) (λ (c : Claim). size_of c.phase) a.claims
-      (All-weaker (λ (c : Claim). ClaimFits sh c.node c.under c.phase) (λ (c : Claim). has c.phase ≤ size_of c.phase)
+      let c = sum_by-le_each (λ (c : Claim). has_own c.under c.phase) own_size a.claims
+      (All-weaker (λ (c : Claim). ClaimFits sh c.node c.under c.phase) (λ (c : Claim). has_own c.under c.phase ≤ own_size c)
       (λ (c : Claim). has_less c.node c.under c.phase) a.claims s.claims) in
       let r = sum_by-le-sum_by (λ (r : Row). (row_item r).1) open_reservation a.rows (λ (r : Row). row_less r r.shape.parent) in
       omega arith)
@@ -251,18 +262,47 @@ module _ (a : Account) (s : HeldLaw a) where
       cut true x = omega arith
       cut false x = omega arith
 
-      has_less : (node : ℕ) (under : Option ℕ) (phase : Phase) → ClaimFits sh node under phase → has phase ≤ size_of phase
-      has_less node under (Down size next pending) f = f.4
-      has_less node under _ f = omega arith
+      same : (b : Bool) (x : ℕ) → cond b x 0 ≤ cond b x 0
+      same b x = omega arith
+
+      has_less : (node : ℕ) (under : Option ℕ) (phase : Phase) → ClaimFits sh node under phase →
+          has_own under phase ≤ cond (is_none under) (size_of phase) 0
+      has_less node under Free f = same (is_none under) 0
+      has_less node under In f = same (is_none under) 0
+      has_less node under (Up size next pending forced steps) f = same (is_none under) size
+      has_less node under (Held size forced steps) f = same (is_none under) size
+      has_less node under (Failed size forced steps) f = same (is_none under) size
+      has_less node under (Down size next pending) f = rw f.1 f.4
+      has_less node under Bounced f = same (is_none under) 0
 
       row_less : (r : Row) (p : Option ℕ) → (row_rest r p).1 ≤ open_reservation r
       row_less r None = omega arith
       row_less r (Some p) = omega arith
+
+  -- so at most all sizes and all open reservations
+  pub bounded : (n : ℕ) → (row a.rows n).held ≤ sum_by (λ c. size_of c.phase) a.claims + sum_by open_reservation a.rows
+  bounded n = let b = bounded_once n in
+      let l = sum_by-le-sum_by own_size (λ (c : Claim). size_of c.phase) a.claims
+      (λ (c : Claim). less (is_none c.under) (size_of c.phase)) in
+      omega arith
+    where
+      less : (b : Bool) (x : ℕ) → cond b x 0 ≤ x
+      less true x = omega arith
+      less false x = omega arith
 
 -- and so at most the worst case of them
 pub held-le-worst_case : (a : Account) → HeldLaw a → (n : ℕ) → (row a.rows n).held ≤ worst_case (sizes_of a.claims) (reservations_of a.rows)
 held-le-worst_case a s n =
     let b = bounded a s n in
     let e = sum-map (λ (c : Claim). size_of c.phase) a.claims in
+    let f = sum-map open_reservation a.rows in
+    omega arith
+
+-- and the worst case in which a claim on which a child stands counts for nothing, since the child's reservation counts
+pub held-le-worst_case_once : (a : Account) → HeldLaw a → (n : ℕ) →
+    (row a.rows n).held ≤ worst_case (own_sizes_of a.claims) (reservations_of a.rows)
+held-le-worst_case_once a s n =
+    let b = bounded_once a s n in
+    let e = sum-map own_size a.claims in
     let f = sum-map open_reservation a.rows in
     omega arith

@@ -9,13 +9,13 @@ use Rattle.acct_core.specs.Phases.Phase.{Held, Failed}
 use Rattle.acct_core.specs.Rows.{row, shapes}
 use Rattle.acct_core.specs.NodeTree.{IsOpen}
 use Rattle.acct_core.specs.Phases.{pending_subtraction, any_past}
-use Rattle.acct_core.specs.Bounds.{sizes_of, reservations_of}
+use Rattle.acct_core.specs.Bounds.{sizes_of, own_sizes_of, reservations_of}
 use Rattle.acct_core.specs.Lawful.{KeepsLimits, IsLawfulAccount}
 use Rattle.acct_core.specs.AtRest.{tree_nodes, charges_at_rest, IsAtRest}
 use Rattle.acct_core.proofs.FitsLemmas.{whole_law}
 use Rattle.acct_core.proofs.CoverLemmas.{covered}
 use Rattle.acct_core.proofs.CloseLemmas.{unused_holds_none}
-use Rattle.acct_core.proofs.BoundLemmas.{held-le-worst_case}
+use Rattle.acct_core.proofs.BoundLemmas.{held-le-worst_case, held-le-worst_case_once}
 use Rattle.acct_core.proofs.RestLemmas.{held-is-held_of}
 
 -- held covers what is still to be subtracted
@@ -32,6 +32,11 @@ unused_empty a l = unused_holds_none a (whole_law a l)
 pub within_worst_case : (a : Account) → IsLawfulAccount a → (n : ℕ) →
     (row a.rows n).held ≤ worst_case (sizes_of a.claims) (reservations_of a.rows)
 within_worst_case a l = held-le-worst_case a (whole_law a l).held
+
+-- also where a reservation counts once
+pub within_worst_case_once : (a : Account) → IsLawfulAccount a → (n : ℕ) →
+    (row a.rows n).held ≤ worst_case (own_sizes_of a.claims) (reservations_of a.rows)
+within_worst_case_once a l = held-le-worst_case_once a (whole_law a l).held
 
 -- at rest held is what the list of allocators says
 pub rest_is_held_of : (a : Account) → IsLawfulAccount a → All (λ c. IsAtRest c.phase) a.claims → (n : ℕ) → IsOpen (shapes a.rows) n →

@@ -1,5 +1,5 @@
 -- What keeps the law of a tree that is fixed from the start, beside the single events.
-use Rattle.std.proofs.Common.{◌≡◌, ℕ, ◌≤◌, Bool, true, false, List, [], ◌∷◌, set, All, refl, subst, arith, Option, Some, None, ◌&&◌, ◌==◌}
+use Rattle.std.proofs.Common.{zero, suc, sym, ◌≡◌, ℕ, ◌≤◌, Bool, true, false, List, [], ◌∷◌, set, All, refl, subst, arith, Option, Some, None, ◌&&◌, ◌==◌}
 use Rattle.std.proofs.lemmas.Bool.{lt-ltb, le-leb}
 use Rattle.std.proofs.lemmas.List.{set-get_or}
 use Rattle.std.proofs.lemmas.List.Elements.{All-cons, All-head, All-tail, All-nil}
@@ -14,8 +14,9 @@ use Rattle.acct_core.specs.NodeTree.{IsOpen}
 use Rattle.acct_core.specs.Phases.{Phase, pending_addition, pending_subtraction}
 use Rattle.acct_core.specs.Phases.Phase.{Free, In, Up, Held, Failed, Down, Bounced}
 use Rattle.acct_core.specs.Claims.{Claim, account, claim_at, own_charge}
-use Rattle.acct_core.specs.Lawful.{IsInTime, IsLawfulAccount, IsLawfulFixedTree}
+use Rattle.acct_core.specs.Lawful.{HasNextLevel, IsInTime, IsLawfulAccount, IsLawfulFixedTree, PaysFor}
 use Rattle.acct_core.specs.Effects.{Effect, effect_of}
+use Rattle.acct_core.specs.Heads.{claim_under}
 use Rattle.acct_core.specs.FixedTrees.{CanTurnRound, settled, IsGivenTree}
 use Rattle.acct_core.proofs.FitsLemmas.{ClaimFits, HeldLaw, fixed_law, balanced_account, each_claim, in_time}
 use Rattle.acct_core.proofs.SumLemmas.{zero_cond}
@@ -153,3 +154,20 @@ pub forgotten_lawful : (rows : List Row) (n size : ℕ) (under : Option ℕ) (fo
 forgotten_lawful rows n size under forced steps claims = alike_lawful rows
     ((record { node = n; under = under; phase = Held size forced steps }) ∷ claims)
     ((record { node = n; under = under; phase = Held size false [] }) ∷ claims) (forgotten_alike rows n size under forced steps claims)
+
+-- a claim that pays for a reservation is as lawful as the one that stands under a child
+pub paying_lawful : (rows : List Row) (p r : ℕ) (phase : Phase) (claims : List Claim) → PaysFor r phase →
+    IsLawfulAccount (account rows (claim_at p phase ∷ claims)) → IsLawfulAccount (account rows (claim_under p None r ∷ claims))
+paying_lawful rows p zero In claims pays l = l
+paying_lawful rows p (suc less) In claims pays l = absurd (omega arith)
+paying_lawful rows p zero (Held size forced steps) claims pays l =
+    let f = All-head (λ (c : Claim). HasNextLevel (shapes rows) c.node c.phase) (claim_at p (Held size forced steps)) claims l.next_levels in
+    absurd (omega arith)
+paying_lawful rows p (suc less) (Held size forced steps) claims pays l =
+    subst (λ (x : ℕ). IsLawfulAccount (account rows (claim_at p (Held x false []) ∷ claims))) (sym pays)
+    (forgotten_lawful rows p size None forced steps claims l)
+paying_lawful rows p r Free claims pays l = elim pays [ ]
+paying_lawful rows p r (Up size next pending forced steps) claims pays l = elim pays [ ]
+paying_lawful rows p r (Failed size forced steps) claims pays l = elim pays [ ]
+paying_lawful rows p r (Down size next pending) claims pays l = elim pays [ ]
+paying_lawful rows p r Bounced claims pays l = elim pays [ ]

@@ -107,3 +107,10 @@ close_head rows claims k p r l opened unused parent =
       rows = refl;
       claims = rw parent (record { place = 0; there = omega arith; carried = refl; freed = refl });
     }) l
+
+-- a node without a parent, which has no uses, is closed, and no claim changes
+pub close_root : (rows : List Row) (claims : List Claim) (k : ℕ) → IsLawfulAccount (account rows claims) → IsOpen (shapes rows) k →
+    (row rows k).uses ≡ 0 → (row rows k).shape.parent ≡ None → IsLawfulAccount (account (set rows k (closed_row (row rows k))) claims)
+close_root rows claims k l opened unused root =
+    each_move (account rows claims) (account (set rows k (closed_row (row rows k))) claims) (Close (record { 0 = k })) Closed
+    (record { opened = opened; unused = unused; rows = refl; claims = rw root refl }) l

@@ -6,8 +6,9 @@ ghost use Rattle.acct_core.specs.declared.row.Row.{Row};
 ghost use Rattle.acct_core.specs.Applies.{opened_row, closed_row};
 ghost use Rattle.acct_core.specs.Effects.{Effect, claim_number, effect_of, level_of};
 ghost use Rattle.acct_core.specs.Heads.{claim_under, entered_phase, with_uses};
-ghost use Rattle.acct_core.specs.Lawful.{IsLawfulAccount, IsLawfulFixedTree};
+ghost use Rattle.acct_core.specs.Lawful.{IsLawfulAccount, IsLawfulFixedTree, PaysFor};
 ghost use Rattle.acct_core.specs.NodeTree.{IsOpen};
+ghost use Rattle.acct_core.specs.Phases.{Phase};
 ghost use Rattle.acct_core.specs.Rows.{row, shapes};
 ghost use Rattle.acct_core.specs.Weights.{in_root, stake};
 
@@ -56,6 +57,20 @@ pub fn closing_on_the_first_claim_keeps_the_law()
         IsOpen (shapes rows) child → (row rows child).uses ≡ 0 → (row rows child).shape.parent ≡ Some parent →
         IsLawfulAccount (account (slice_set rows child (closed_row (row rows child)))
         (claim_under parent None reservation ∷ claims)) }
+{}
+
+/// A node that has no parent, and so stands on no claim, is closed where it has no uses.
+pub fn closing_the_root_keeps_the_law()
+    ensures { (rows : List Row) (claims : List Claim) (node : ℕ) → IsLawfulAccount (account rows claims) →
+        IsOpen (shapes rows) node → (row rows node).uses ≡ 0 → (row rows node).shape.parent ≡ None →
+        IsLawfulAccount (account (slice_set rows node (closed_row (row rows node))) claims) }
+{}
+
+/// A claim that pays for a reservation is as lawful as the one that stands under a child, whatever steps it went up by.
+pub fn claim_that_pays_can_stand_under_a_child()
+    ensures { (rows : List Row) (parent reservation : ℕ) (phase : Phase) (claims : List Claim) → PaysFor reservation phase →
+        IsLawfulAccount (account rows (claim_at parent phase ∷ claims)) →
+        IsLawfulAccount (account rows (claim_under parent None reservation ∷ claims)) }
 {}
 
 /// The stake of claims is at most what they have in the root, and two lists together have no greater stake than each by itself.

@@ -14,7 +14,7 @@ ghost use Rattle.acct_core.specs.declared.row.Row.{Row};
 ghost use Rattle.acct_core.specs.declared.told.Told.{Told};
 ghost use Rattle.acct_core.specs.Applies.{Applies, AppliesToClaim};
 ghost use Rattle.acct_core.specs.AtRest.{IsAtRest, charges_at_rest, tree_node, tree_nodes};
-ghost use Rattle.acct_core.specs.Bounds.{reservations_of, sizes_of};
+ghost use Rattle.acct_core.specs.Bounds.{own_sizes_of, reservations_of, sizes_of};
 ghost use Rattle.acct_core.specs.Effects.{Effect, effect_of};
 ghost use Rattle.acct_core.specs.Lawful.{IsLawfulAccount, IsLawfulFixedTree};
 ghost use Rattle.acct_core.specs.NodeTree.{IsOpen};
@@ -65,11 +65,14 @@ pub fn unused_node_holds_nothing()
         (row account.rows node).uses ≡ 0 → (row account.rows node).held ≡ 0 }
 {}
 
-/// What bounds each held number, whatever calls are in flight.
-#[tactic(auto, using(crate::proofs::ConsequenceLemmas::within_worst_case))]
+/// What bounds each held number, whatever calls are in flight. A claim on which a child stands pays for the child's reservation, so that
+/// each reservation counts once.
+#[tactic(auto, using(crate::proofs::ConsequenceLemmas::within_worst_case, crate::proofs::ConsequenceLemmas::within_worst_case_once))]
 pub fn held_is_within_the_worst_case()
-    ensures { (account : Account) → IsLawfulAccount account → (node : ℕ) →
+    ensures all { (account : Account) → IsLawfulAccount account → (node : ℕ) →
         (row account.rows node).held ≤ worst_case (sizes_of account.claims) (reservations_of account.rows) }
+    ensures once { (account : Account) → IsLawfulAccount account → (node : ℕ) →
+        (row account.rows node).held ≤ worst_case (own_sizes_of account.claims) (reservations_of account.rows) }
 {}
 
 /// The allocators that were made are a tree, whatever calls are in flight. Where there is any, the first is the root, which is
