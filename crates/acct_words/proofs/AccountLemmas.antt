@@ -32,7 +32,7 @@ use Rattle.acct_core.proofs.LineLemmas.{made_in, reaches_open}
 use Rattle.acct_words.specs.declared.fixed.Fixed.{Fixed}
 use Rattle.acct_words.specs.Views.{View}
 use Rattle.acct_words.specs.Places.{held_word, limit_word, word_count}
-use Rattle.acct_words.specs.Rows.{node, row_of, rows_of, claims_of, shown}
+use Rattle.acct_words.specs.Rows.{node, row_of, rows_of, claims_of, shown, ComesAfterParent}
 use Rattle.acct_words.specs.Moves.{found_row, risen, fallen}
 use Rattle.acct_words.specs.Rule.{reservations}
 use Rattle.acct_words.proofs.RowLemmas.{rows_of-length, rows_of-at, rows_of-set}
@@ -100,18 +100,22 @@ module _ (tree : List Fixed) (words : List ℕ) (limits : (n : ℕ) → n < leng
   held = slice_index words (held_word m)
 
   -- it is the row that was found
-  pub row_found : row (rows_of tree 0 words) m ≡ found_row tree m held
+  pub row_found : row (rows_of tree 0 words) m ≡ found_row m (node tree m) held
   row_found = rows_of-at tree 0 m m words there (omega arith) ∙ ap (row_of m (node tree m) held) (limits m there)
 
   -- with another held number
   pub row_written : (x : ℕ) → held_word m < length words → rows_of tree 0 (set words (held_word m) x) ≡ set (rows_of tree 0 words) m
-      (found_row tree m x)
+      (found_row m (node tree m) x)
   row_written x inside = rows_of-set tree 0 m m x words (omega arith) there inside
       ∙ ap (λ (l : ℕ). set (rows_of tree 0 words) m (row_of m (node tree m) x l)) (limits m there)
 
   -- it is open
   pub row_open : IsOpen (shapes (rows_of tree 0 words)) m
   row_open = ap (λ (r : Row). r.shape.is_open) row_found
+
+  -- and comes after its parent
+  pub row_after : (claims : List Claim) → IsLawfulFixedTree (account (rows_of tree 0 words) claims) → ComesAfterParent m (node tree m)
+  row_after claims l p e = l.balanced.tree.smaller m p (ap (λ (r : Row). r.shape.parent) row_found ∙ e)
 
 -- a claim that goes up adds at an allocator of the tree
 pub rises_there : (tree : List Fixed) (words : List ℕ) (claims : List Claim) (n size m amount : ℕ) (forced : Bool)
@@ -128,11 +132,11 @@ rises_there tree words claims n size m amount forced steps rest same l =
 -- what a claim that goes up makes of its row and of itself
 abbrev pub rise_effect : List Fixed → ℕ → ℕ → ℕ → ℕ → ℕ → Bool → List LevelStep → Effect
 rise_effect tree held n size m amount forced steps =
-    let r = found_row tree m held in
+    let r = found_row m (node tree m) held in
     let further = passed r.shape.parent (beyond_reservation r.shape.reservation r.held (r.held + amount)) in
     record {
       told = told_step (step_at m r amount) (is_none further);
-      row = found_row tree m (held + amount);
+      row = found_row m (node tree m) (held + amount);
       claim =
           claim_at n (goes_on further size forced (steps ++ step_at m r amount ∷ []));
     }
@@ -154,13 +158,13 @@ module _ (tree : List Fixed) (words : List ℕ) (views : List View) (id : ℕ) (
       ≡ Some (rise_effect tree now n size m amount forced steps)) (sym (row_found tree words limits m there)) refl
 
   -- the rows after it
-  rows_risen : rows_of tree 0 (set words (held_word m) (now + amount)) ≡ set rows m (found_row tree m (now + amount))
+  rows_risen : rows_of tree 0 (set words (held_word m) (now + amount)) ≡ set rows m (found_row m (node tree m) (now + amount))
   rows_risen = row_written tree words limits m there (now + amount) (omega arith)
 
   -- an addition of what a claim has pending
   pub rise_moves : (n size : ℕ) (forced : Bool) (steps : List LevelStep) (rest : List Claim) →
       SameClaims (its_charges v) (claim_at n (Up size m amount forced steps) ∷ rest)
-      → SameClaims (risen tree now (claim_at n (Up size m amount forced steps)) ∷ rest) (its_charges w)
+      → SameClaims (risen m (node tree m) now (claim_at n (Up size m amount forced steps)) ∷ rest) (its_charges w)
       → IsLawfulFixedTree (shown tree words views) →
       IsLawfulFixedTree (shown tree (set words (held_word m) (now + amount)) (set views id w))
   rise_moves n size forced steps rest before after l =
@@ -170,7 +174,7 @@ module _ (tree : List Fixed) (words : List ℕ) (views : List View) (id : ℕ) (
 
   -- the first step of a request, which adds its whole size at its node
   pub begin_moves : (forced : Bool) (rest : List Claim) → 1 ≤ amount → amount ≤ MAX_RESERVATION → SameClaims (its_charges v) rest
-      → SameClaims (risen tree now (claim_at m (Up amount m amount forced [])) ∷ rest) (its_charges w)
+      → SameClaims (risen m (node tree m) now (claim_at m (Up amount m amount forced [])) ∷ rest) (its_charges w)
       → IsLawfulFixedTree (shown tree words views) →
       IsLawfulFixedTree (shown tree (set words (held_word m) (now + amount)) (set views id w))
   begin_moves forced rest some_size small before after l =
@@ -194,11 +198,11 @@ held_bounded tree words views m there l =
 -- what a claim that goes down makes of its row and of itself
 abbrev pub fall_effect : List Fixed → ℕ → ℕ → ℕ → ℕ → ℕ → Effect
 fall_effect tree held n size m amount =
-    let r = found_row tree m held in
+    let r = found_row m (node tree m) held in
     let further = passed r.shape.parent (beyond_reservation r.shape.reservation (r.held - amount) r.held) in
     record {
       told = told_step (step_at m r amount) (is_none further);
-      row = found_row tree m (held - amount);
+      row = found_row m (node tree m) (held - amount);
       claim =
           claim_at n (goes_back further size);
     }
@@ -236,21 +240,23 @@ module _ (tree : List Fixed) (words : List ℕ) (limits : (n : ℕ) → n < leng
 
     -- the account after the subtraction
     pub fall_fixed : IsLawfulFixedTree (account (rows_of tree 0 (set words (held_word m) (held_now - amount)))
-        (settled (fallen tree held_now (claim_at n (Down size m amount))) o))
+        (settled (fallen m (node tree m) held_now (claim_at n (Down size m amount))) o))
     fall_fixed =
-        subst (λ (r : List Row). IsLawfulFixedTree (account r (settled (fallen tree held_now (claim_at n (Down size m amount))) o)))
+        subst
+        (λ (r : List Row). IsLawfulFixedTree (account r (settled (fallen m (node tree m) held_now (claim_at n (Down size m amount))) o)))
         (sym (row_written tree words limits m falls_there (held_now - amount) (let q = falls_there in omega arith)))
-        (by (passed (found_row tree m held_now).shape.parent (beyond_reservation (found_row tree m held_now).shape.reservation
-        (held_now - amount) held_now))
+        (by (passed (found_row m (node tree m) held_now).shape.parent
+        (beyond_reservation (found_row m (node tree m) held_now).shape.reservation (held_now - amount) held_now))
         (head_fixed all_rows (claim_at n (Down size m amount)) o (EventDown 0) (fall_effect tree held_now n size m amount) refl
         (subst (λ (r : Row). effect_of (EventDown 0) (claim_at n (Down size m amount)) r ≡ Some (fall_effect tree held_now n size m amount))
         (sym (row_found tree words limits m falls_there)) refl) l))
       where
         by : (further : Option (ℕ × ℕ)) →
-            IsLawfulFixedTree (account (set all_rows m (found_row tree m (held_now - amount))) (claim_at n (goes_back further size) ∷ o))
-            → IsLawfulFixedTree (account (set all_rows m (found_row tree m (held_now - amount)))
+            IsLawfulFixedTree (account (set all_rows m (found_row m (node tree m) (held_now - amount)))
+            (claim_at n (goes_back further size) ∷ o))
+            → IsLawfulFixedTree (account (set all_rows m (found_row m (node tree m) (held_now - amount)))
             (settled (claim_at n (goes_back further size)) o))
-        by None k = in_less (set all_rows m (found_row tree m (held_now - amount))) n o k
+        by None k = in_less (set all_rows m (found_row m (node tree m) (held_now - amount))) n o k
         by (Some p) k = k
 
 -- a subtraction of what a charge has pending
@@ -258,10 +264,10 @@ pub fall_moves : (tree : List Fixed) (words : List ℕ) (views : List View) (id 
     → ((n : ℕ) → n < length tree → slice_index words (limit_word n) ≡ (node tree n).limit) → length words ≡ word_count (length tree)
     → (n size m amount : ℕ) (rest : List Claim) →
     IsLawfulFixedTree (account (rows_of tree 0 words) (claim_at n (Down size m amount) ∷ (rest ++ others views id)))
-    → SameClaims (settled (fallen tree (slice_index words (held_word m)) (claim_at n (Down size m amount))) rest) (its_charges w)
+    → SameClaims (settled (fallen m (node tree m) (slice_index words (held_word m)) (claim_at n (Down size m amount))) rest) (its_charges w)
     → IsLawfulFixedTree (shown tree (set words (held_word m) (slice_index words (held_word m) - amount)) (set views id w))
 fall_moves tree words views id v w at limits wide n size m amount rest l after =
-    let c = fallen tree (slice_index words (held_word m)) (claim_at n (Down size m amount)) in
+    let c = fallen m (node tree m) (slice_index words (held_word m)) (claim_at n (Down size m amount)) in
     let rows = rows_of tree 0 (set words (held_word m) (slice_index words (held_word m) - amount)) in
     claims_in rows views id v w (settled c rest) at after
     (subst (λ (k : List Claim). IsLawfulFixedTree (account rows k)) (settled_before c rest (others views id))

@@ -18,12 +18,13 @@ use Rattle.acct_core.proofs.FixedTreeLemmas.{held_law}
 use Rattle.acct_words.specs.Entries.{StepKind, Entry, size_begun, size_forgotten, reached, draw_count, begun, drew}
 use Rattle.acct_words.specs.Views.{Start, Chunk, View}
 use Rattle.acct_words.specs.declared.rule.Said.{Said}
-use Rattle.acct_words.specs.Places.{number_word, held_word, limit_word}
+use Rattle.acct_words.specs.Places.{number_word, held_word}
 use Rattle.acct_words.specs.Bodies.{of_view, total, made, bytes_left, turns_left, charging, chunk_sizes, numbered}
 use Rattle.acct_words.specs.Rows.{claims_of, rows_of, shown}
-use Rattle.acct_words.specs.Rule.{reservations, IsGoodChunk, IsGoodView, IsSoundTable}
+use Rattle.acct_words.specs.Rule.{reservations, IsGoodChunk, IsGoodView, IsKnown, IsSoundTable}
 use Rattle.acct_words.specs.Plays.{entry}
 use Rattle.acct_words.proofs.ViewLemmas.{total_set}
+use Rattle.acct_words.proofs.RowLemmas.{fixed_in-held, limits_of}
 use Rattle.acct_words.proofs.ClaimLemmas.{claims_of-sum}
 use Rattle.acct_words.proofs.AccountLemmas.{held_bounded, row_found, row_open}
 use Rattle.acct_words.proofs.KeptLemmas.{step_kept}
@@ -77,6 +78,7 @@ module _ (start : Start) (s : State Said View) (homes : List (option.Option Said
     pub sizes : of_view chunk_sizes w ≤ of_view chunk_sizes v + size_begun act
     pub numbers : (m : ℕ) → of_view (numbered m) w ≤ of_view (numbered m) v
     pub good : IsGoodView (k.history ++ e ∷ []) w
+    pub known : All (IsKnown start) w.known
 
   module _ (c : IsAddition) where
     -- the sum is within the worst case
@@ -117,7 +119,7 @@ module _ (start : Start) (s : State Said View) (homes : List (option.Option Said
     })) (sym (mod-eq_of_lt (let h = addition_small in omega arith)))
         (step_kept start s homes id v w k at (held_word m) (n + amount) act (record {
           lawful = c.lawful;
-          limits = λ j h. get_or-set_other s.words (held_word m) (limit_word j) (n + amount) 0 (λ q. omega arith);
+          fixed = λ j h. fixed_in-held j m (n + amount) s.words;
           next = (let o = get_or-set_other s.words (held_word m) number_word (n + amount) 0 (λ q. omega arith) in let z = draws_none in
               omega arith);
           bounded = (let q = is_addition n in let a = within in omega arith);
@@ -128,6 +130,7 @@ module _ (start : Start) (s : State Said View) (homes : List (option.Option Said
           numbers = λ j. (let p = c.numbers j in omega arith);
           fresh = λ j ne. draws_no_number j;
           good = c.good;
+          known = c.known;
         }))
 
 -- a held word is small
@@ -145,5 +148,5 @@ pub held_covers : (start : Start) (s : State Said View) → IsSoundTable start s
 held_covers start s k m there =
     let rows = rows_of start.tree 0 s.words in
     let a = covered (shown start.tree s.words s.views) (held_law rows (claims_of s.views) k.accounts) m
-    (row_open start.tree s.words k.layout.limits m there) in
-    let e = ap (λ (r : Row). r.held) (row_found start.tree s.words k.layout.limits m there) in omega arith
+    (row_open start.tree s.words (limits_of start.tree s.words k.layout.fixed) m there) in
+    let e = ap (λ (r : Row). r.held) (row_found start.tree s.words (limits_of start.tree s.words k.layout.fixed) m there) in omega arith

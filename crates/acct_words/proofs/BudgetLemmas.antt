@@ -70,6 +70,7 @@ pays_allowed slots id i me said none_offered bytes turns s k _ at _ =
               All-nil IsGoodChunk;
         },
       );
+      known = k.known id me.0 at;
     }) in (
       w,
       keeps,

@@ -6,7 +6,7 @@ use prog.Atomic.{either}
 use Rattle.atomic_table.specs.Table.{Me, Allows, step}
 use Rattle.acct_words.specs.Views.{Start, View}
 use Rattle.acct_words.specs.declared.rule.Said.{Said}
-use Rattle.acct_words.specs.Places.{number_word, held_word, limit_word}
+use Rattle.acct_words.specs.Places.{number_word, held_word}
 use Rattle.acct_words.specs.Bodies.{nothing}
 use Rattle.acct_words.specs.Rule.{IsSoundTable}
 use Rattle.acct_words.specs.Plays.{Draws, Begins, Forces, Rises, Reads, Looks, Parts, Turns, Falls, Forgets, Counts, Pays}
@@ -41,12 +41,10 @@ module _ (start : Start) (slots id : ℕ) (me : Me Said View) (same : me.0.start
       (Rises (step slots (held_word m) amount 0 none) me)) same
       (rises_allowed slots id me c.at c.size m amount c.forced c.steps c.chunk c.others c.rest c.is c.up)
 
-  -- the reading of a limit
-  pub read_owes : (m : ℕ) → m < length start.tree → Allows (IsSoundTable start) slots id me (limit_word m) (λ n. n)
-      (Reads (step slots (limit_word m) 0 0 none) me)
-  read_owes m there = subst (λ (x : Start). Allows (IsSoundTable x) slots id me (limit_word m) (λ n. n)
-      (Reads (step slots (limit_word m) 0 0 none) me)) same
-      (reads_allowed slots id me m (subst (λ (x : Start). m < length x.tree) (sym same) there))
+  -- the reading of what is fixed of a level
+  pub read_owes : (i : ℕ) → Allows (IsSoundTable start) slots id me i (λ n. n) (Reads (step slots i 0 0 none) me)
+  read_owes i = subst (λ (x : Start). Allows (IsSoundTable x) slots id me i (λ n. n) (Reads (step slots i 0 0 none) me)) same
+      (reads_allowed slots id i me)
 
   -- the reading of a held number
   pub look_owes : (m : ℕ) → m < length start.tree → Allows (IsSoundTable start) slots id me (held_word m) (λ n. n)

@@ -1,6 +1,6 @@
 -- What a charge makes of its token.
 use Rattle.std.proofs.Common.{◌≡◌, ℕ, ◌-◌, Bool, true, false, cond, ◌&&◌, ◌||◌, List, [], ◌∷◌, ◌++◌, Some, None, refl, sym, ap, ◌∙◌}
-use Rattle.std.proofs.Common.{subst, eq-eqb}
+use Rattle.std.proofs.Common.{eq-eqb}
 use Rattle.mem_num.specs.declared.full.Full.{Full}
 use Rattle.acct_core.specs.declared.level_step.LevelStep.{LevelStep}
 use Rattle.acct_core.specs.Phases.{Phase, is_past, any_past}
@@ -12,12 +12,12 @@ use Rattle.acct_words.specs.Entries.{Entry}
 use Rattle.acct_words.specs.Views.{Chunk, View}
 use Rattle.acct_words.specs.Places.{still_word, number_word, held_word}
 use Rattle.acct_words.specs.Bodies.{nothing, left}
-use Rattle.acct_words.specs.Moves.{drawing, charged_as, first_chunk, other_chunks, one_chunk, to_front, parting, parted}
-use Rattle.acct_words.specs.Plays.{Steps, first_size, stepping}
+use Rattle.acct_words.specs.Moves.{drawing, charged_as, first_chunk, other_chunks, one_chunk, to_front, parting}
+use Rattle.acct_words.specs.Plays.{Steps, first_size, stepping, parting_view}
 use Rattle.acct_words.specs.Calls.{HasChunk, HasEmptyChunk, HasParted, TurnsBack}
 use Rattle.acct_core.specs.FixedTrees.{CanTurnRound}
-use Rattle.acct_words.specs.Climbs.{Climbs, IsCharged, refusal_of, full_at, standing}
-use Rattle.acct_words.specs.Falls.{Descends, IsReleased, rest_of, released}
+use Rattle.acct_words.specs.Climbs.{IsCharged, refusal_of, full_at, standing}
+use Rattle.acct_words.specs.Falls.{IsReleased, rest_of, released}
 use Rattle.acct_words.specs.Charges.{draw_entry, still_entry, forget_entry, ViewCharges, ViewRefuses}
 
 -- steps after one and others
@@ -47,26 +47,23 @@ charged_chunk at number size steps = record { number = number; size = size; char
 -- the token after the draw and the climb
 pub climbed_view : (at size number : ℕ) (v d w : View) (steps : List LevelStep) (s : Steps DrawChunkNumber drawing number_word number v d)
     (c : IsCharged at size d w steps None)
-    → w ≡ standing v (draw_entry s.0 number ∷ c.climbed.entries) (v.own.bytes - size) (v.own.turns - 1)
+    → w ≡ standing v c.climbed.known (draw_entry s.0 number ∷ c.climbed.entries) (v.own.bytes - size) (v.own.turns - 1)
     (charged_chunk at number size steps ∷ v.own.chunks)
 climbed_view at size number v d w steps s c =
     let first : record { number = number; size = 0; charges = [] } ∷ v.own.chunks ≡ c.chunk ∷ c.others =
     sym (ap (λ (y : View). y.own.chunks) s.1) ∙ c.is in
     let k : c.chunk ≡ record { number = number; size = 0; charges = [] } = ap chunk_or_none (sym first) in
     let o : c.others ≡ v.own.chunks = ap other_chunks (sym first) in
-    c.climbed.view ∙ (λ j. standing (s.1 j) c.climbed.entries ((s.1 j).own.bytes - size) (s.1 j).own.turns
+    c.climbed.view ∙ (λ j. standing (s.1 j) c.climbed.known c.climbed.entries ((s.1 j).own.bytes - size) (s.1 j).own.turns
     (charged_as (record { number = (k j).number; size = size; charges = [] }) (claim_at at (ended size false steps) ∷ []) ∷ o j))
-    ∙ (λ j. record {
-      start = v.start;
-      own = record {
+    ∙ (λ j. record v {
+      known = c.climbed.known;
+      own = record (v.own) {
         own_steps = before_all v.own.own_steps (draw_entry s.0 number) c.climbed.entries j;
-        observed = v.own.observed;
         bytes = v.own.bytes - size;
         turns = v.own.turns - 1;
-        chunks =
-            charged_chunk at number size steps ∷ v.own.chunks;
+        chunks = charged_chunk at number size steps ∷ v.own.chunks;
       };
-      offer = v.offer;
     })
 
 -- a drawn chunk has no charge
@@ -99,21 +96,17 @@ charge_done at size number v d w x new steps whole s c none p =
     let held : ended size false steps ≡ Held size false steps =
     ap (λ (b : Bool). cond (true && b) (Failed size false steps) (Held size false steps)) within in
     let e = still_entry p.name p.found in
-    let tree : d.start.tree ≡ v.start.tree = ap (λ (y : View). y.start.tree) s.1 in
-    let kept : x ≡ standing v (draw_entry s.0 number ∷ (c.climbed.entries ++ e ∷ [])) (v.own.bytes - size) (v.own.turns - 1) v.own.chunks
-    = p.kept ∙ (λ j. left (record { start = (view j).start; own = parting (view j).own e; offer = parted (view j).own }))
-    ∙ (λ j. record {
-      start = v.start;
-      own = record {
-        own_steps = behind_all v.own.own_steps (draw_entry s.0 number) c.climbed.entries
-            (e ∷ []) j;
-        observed = v.own.observed;
+    let kept : x ≡ standing v c.climbed.known (draw_entry s.0 number ∷ (c.climbed.entries ++ e ∷ [])) (v.own.bytes - size)
+    (v.own.turns - 1) v.own.chunks
+    = p.kept ∙ (λ j. left (parting_view (view j) p.name still_word p.found))
+    ∙ (λ j. record v {
+      known = c.climbed.known;
+      own = record (v.own) {
+        own_steps = behind_all v.own.own_steps (draw_entry s.0 number) c.climbed.entries (e ∷ []) j;
         bytes = v.own.bytes - size;
         turns = v.own.turns - 1;
-        chunks = v.own.chunks;
       };
-      offer =
-          sym whole j;
+      offer = sym whole j;
     }) in
     let seen : x.own.own_steps ++ x.own.observed ≡ (w.own.own_steps ++ e ∷ []) ++ w.own.observed =
     ap (λ (y : View). y.own.own_steps ++ y.own.observed) p.kept in
@@ -123,18 +116,16 @@ charge_done at size number v d w x new steps whole s c none p =
       last_found = p.found;
       steps = steps;
       entries = c.climbed.entries;
-      climb = subst (λ l. Climbs l at size steps None) tree c.climbed.climb;
+      climb = c.climbed.climb;
       within = within;
-      shows = c.climbed.shows;
       begins = c.climbed.begins;
+      known = c.climbed.known;
       token = kept;
       chunk = p.given ∙ (λ j. record {
         start = ((ap (λ (y : View). y.start) view ∙ sym (ap (λ (y : View). y.start) kept)) j);
-        own = record {
-          own_steps = [];
+        known = [];
+        own = record nothing {
           observed = sym seen j;
-          bytes = 0;
-          turns = 0;
           chunks = ((ap (λ (y : View). one_chunk y.own.chunks) view
               ∙ ap (λ (ph : Phase). record { number = number; size = size; charges = claim_at at ph ∷ [] } ∷ []) held) j);
         };
@@ -179,22 +170,22 @@ charged_has at size number v d w steps s c = record {
 
 -- the token after the release
 released_view : (at size number : ℕ) (v d w x : View) (steps : List LevelStep) (back : List Entry)
-    (s : Steps DrawChunkNumber drawing number_word number v d) (c : IsCharged at size d w steps None) → IsReleased at size w x back None
-    → x ≡ standing v (draw_entry s.0 number ∷ (c.climbed.entries ++ back)) (v.own.bytes - size) (v.own.turns - 1)
+    (s : Steps DrawChunkNumber drawing number_word number v d) (c : IsCharged at size d w steps None)
+    → (r : IsReleased at size w x back None) →
+    x ≡ standing v r.known (draw_entry s.0 number ∷ (c.climbed.entries ++ back)) (v.own.bytes - size) (v.own.turns - 1)
     (record { number = number; size = size; charges = [] } ∷ v.own.chunks)
 released_view at size number v d w x steps back s c r =
     let view = climbed_view at size number v d w steps s c in
-    r.view ∙ (λ j. standing (view j) back (view j).own.bytes (view j).own.turns (first_chunk (released at size None) (view j).own.chunks))
-    ∙ (λ j. record {
-      start = v.start;
-      own = record {
+    r.view ∙ (λ j. standing (view j) r.known back (view j).own.bytes (view j).own.turns
+    (first_chunk (released at size None) (view j).own.chunks))
+    ∙ (λ j. record v {
+      known = r.known;
+      own = record (v.own) {
         own_steps = behind_all v.own.own_steps (draw_entry s.0 number) c.climbed.entries back j;
-        observed = v.own.observed;
         bytes = v.own.bytes - size;
         turns = v.own.turns - 1;
         chunks = record { number = number; size = size; charges = rest_of (one_front at (ended size false steps) j) } ∷ v.own.chunks;
       };
-      offer = v.offer;
     })
 
 -- the chunk in hand has no charge then
@@ -214,8 +205,6 @@ pub charge_refused : (at size number : ℕ) (v d w x y : View) (steps : List Lev
     IsReleased at size w x back None
     → Steps (ForgetChunk (first_size x.own.chunks)) parting still_word found x y → ViewRefuses at size v y full
 charge_refused at size number v d w x y steps back full found s c refusal r f =
-    let tree : d.start.tree ≡ v.start.tree = ap (λ (y : View). y.start.tree) s.1 in
-    let its_tree : w.start.tree ≡ v.start.tree = ap (λ (y : View). y.start.tree) (climbed_view at size number v d w steps s c) in
     let e = forget_entry f.0 size found in
     let all = draw_entry s.0 number ∷ (c.climbed.entries ++ back) in
     record {
@@ -226,24 +215,20 @@ charge_refused at size number v d w x y steps back full found s c refusal r f =
       steps = steps;
       entries = c.climbed.entries;
       taken_back = back;
-      climb = subst (λ l. Climbs l at size steps None) tree c.climbed.climb;
+      climb = c.climbed.climb;
       refusal = refusal;
-      shows = c.climbed.shows;
       begins = c.climbed.begins;
-      descent = subst (λ l. Descends l at size back None) its_tree r.descent;
+      descent = r.descent;
+      known = r.known;
       token = f.1 ∙ ap (λ (z : View). stepping parting z (forget_entry f.0 (first_size z.own.chunks) found))
           (released_view at size number v d w x steps back s c r)
-          ∙ (λ j. record {
-            start = v.start;
-            own =
-                record {
-                  own_steps = (three v.own.own_steps all (e ∷ [])
-                      ∙ ap (λ (l : List Entry). v.own.own_steps ++ draw_entry s.0 number ∷ l) (three c.climbed.entries back (e ∷ []))) j;
-                  observed = v.own.observed;
-                  bytes = v.own.bytes - size;
-                  turns = v.own.turns - 1;
-                  chunks = v.own.chunks;
-                };
-            offer = v.offer;
+          ∙ (λ j. record v {
+            known = r.known;
+            own = record (v.own) {
+              own_steps = (three v.own.own_steps all (e ∷ [])
+                  ∙ ap (λ (l : List Entry). v.own.own_steps ++ draw_entry s.0 number ∷ l) (three c.climbed.entries back (e ∷ []))) j;
+              bytes = v.own.bytes - size;
+              turns = v.own.turns - 1;
+            };
           });
     }

@@ -23,17 +23,18 @@ use Rattle.acct_words.specs.Bodies.{of_view, made, numbered, chunk_sizes, bytes_
 use Rattle.acct_words.specs.Rows.{node, charges_of, rows_of}
 use Rattle.acct_words.specs.Moves.{found_row, fallen, turned, behind, to_front, charged_as, first_chunk, falling_charges, turning_charges}
 use Rattle.acct_words.specs.Moves.{falling, turning, other_chunks, parting}
-use Rattle.acct_words.specs.Rule.{IsGoodChunk, IsGoodView, IsSoundTable}
-use Rattle.acct_words.specs.Plays.{entry, stepping, Falls, Turns, Forgets, first_size}
+use Rattle.acct_words.specs.Rule.{IsGoodChunk, IsGoodView, IsKnown, IsSoundTable}
+use Rattle.acct_words.specs.Plays.{entry, stepping, knowing, Falls, Turns, Forgets, first_size}
 use Rattle.acct_core.specs.FixedTrees.{CanTurnRound, settled}
 use Rattle.acct_core.proofs.FixedTreeLemmas.{turn_fixed}
 use Rattle.acct_core.specs.SameClaims.{SameClaims}
 use Rattle.acct_core.proofs.SameClaimsLemmas.{same_all, same_from, same_self, same_then, same_before, same_path}
 use Rattle.acct_words.proofs.ClaimLemmas.{its_charges, others}
+use Rattle.acct_words.proofs.RowLemmas.{fixed_in-held, limits_of}
 use Rattle.acct_words.proofs.AccountLemmas.{claims_out, fall_moves, falls_there, falls_covered}
-use Rattle.acct_words.proofs.KeptLemmas.{step_kept, good_longer}
+use Rattle.acct_words.proofs.KeptLemmas.{step_kept, good_longer, known_more}
 use Rattle.acct_words.proofs.BoundLemmas.{held_small}
-use Rattle.acct_words.proofs.StepLemmas.{steps_more, first_charges}
+use Rattle.acct_words.proofs.StepLemmas.{steps_more, first_charges, at_level, comes_after}
 use Rattle.acct_words.proofs.LoadLemmas.{IsLoad, quiet_forget, load_kept, known_after}
 
 -- a claim behind the first is the same claims
@@ -75,38 +76,31 @@ front_length word (c ∷ charges) = by (held_word c.node == word) (front_length 
     by false e = behind_length c (to_front word charges) ∙ ap suc e
 
 -- what a charge that goes down leaves is no larger
-settled_good : (tree : List Fixed) (found n size m amount k : ℕ) (rest : List Claim) → size ≤ k → length rest ≤ 1 →
+settled_good : (f : Fixed) (found n size m amount k : ℕ) (rest : List Claim) → size ≤ k → length rest ≤ 1 →
     All (λ x. size_of x.phase ≤ k) rest
-    → (length (settled (fallen tree found (claim_at n (Down size m amount))) rest) ≤ 2) × All (λ x. size_of x.phase ≤ k)
-    (settled (fallen tree found (claim_at n (Down size m amount))) rest)
-settled_good tree found n size m amount k rest le few all =
-    by (passed (found_row tree m found).shape.parent (beyond_reservation (node tree m).reservation (found - amount) found))
+    → (length (settled (fallen m f found (claim_at n (Down size m amount))) rest) ≤ 2) × All (λ x. size_of x.phase ≤ k)
+    (settled (fallen m f found (claim_at n (Down size m amount))) rest)
+settled_good f found n size m amount k rest le few all =
+    by (passed (found_row m f found).shape.parent (beyond_reservation f.reservation (found - amount) found))
   where
     by : (o : Option (ℕ × ℕ)) → (length (settled (claim_at n (goes_back o size)) rest) ≤ 2) × All (λ x. size_of x.phase ≤ k)
         (settled (claim_at n (goes_back o size)) rest)
     by None = (omega arith, all)
     by (Some p) = (omega arith, All-cons (λ x. size_of x.phase ≤ k) (claim_at n (Down size p.0 p.1)) rest le all)
 
+-- a view that made this step at a level, after which its chunks are these
+abbrev pub fell : View → ℕ → Fixed → Entry → List Chunk → View
+fell v m f e chunks = record (knowing m f v) { own = record (v.own) { own_steps = v.own.own_steps ++ e ∷ []; chunks = chunks } }
+
 -- a subtraction from the held word of m of what a charge has pending there
 module _ (start : Start) (s : State Said View) (homes : List (option.Option Said)) (id : ℕ) (v w : View) (k : IsSoundTable start s)
     (at : get_elem? s.views id ≡ some v) (n size m amount : ℕ) (k₀ k₁ : Chunk) (chunks : List Chunk) (rest : List Claim)
     (is : v.own.chunks ≡ k₀ ∷ chunks) (good_before : IsGoodChunk k₀ → IsGoodChunk k₁) (number_is : k₁.number ≡ k₀.number)
     (size_is : k₁.size ≡ k₀.size)
-    (charges_are : k₁.charges ≡ settled (fallen start.tree (slice_index s.words (held_word m)) (claim_at n (Down size m amount))) rest)
-    (view : w ≡ record {
-      start = v.start;
-      own =
-          record {
-            own_steps = v.own.own_steps ++ entry (length k.history) (held_word m) (SubtractHeld amount)
-                (slice_index s.words (held_word m)) ∷ [];
-            observed = v.own.observed;
-            bytes = v.own.bytes;
-            turns = v.own.turns;
-            chunks =
-                k₁ ∷ chunks;
-          };
-      offer = v.offer;
-    })
+    (charges_are : k₁.charges
+    ≡ settled (fallen m (node start.tree m) (slice_index s.words (held_word m)) (claim_at n (Down size m amount))) rest)
+    (view : w ≡ fell v m (node start.tree m) (entry (length k.history) (held_word m) (SubtractHeld amount)
+    (slice_index s.words (held_word m))) (k₁ ∷ chunks))
     (l : IsLawfulFixedTree (account (rows_of start.tree 0 s.words) (claim_at n (Down size m amount) ∷
     (((rest ++ charges_of chunks) ++ charges_of v.offer.chunks) ++ others s.views id)))) where
   abbrev found : ℕ
@@ -119,14 +113,19 @@ module _ (start : Start) (s : State Said View) (homes : List (option.Option Said
   all_rest = (rest ++ charges_of chunks) ++ charges_of v.offer.chunks
 
   abbrev c : Claim
-  c = fallen start.tree found (claim_at n (Down size m amount))
+  c = fallen m (node start.tree m) found (claim_at n (Down size m amount))
+
+  abbrev limits_are : (j : ℕ) → j < length start.tree → slice_index s.words (limit_word j) ≡ (node start.tree j).limit
+  limits_are = limits_of start.tree s.words k.layout.fixed
+
+  pub fall_there : m < length start.tree
+  fall_there = falls_there start.tree s.words limits_are k.layout.wide n size m amount (all_rest ++ others s.views id) l
 
   pub fall_covered : amount ≤ found
-  fall_covered = falls_covered start.tree s.words k.layout.limits k.layout.wide n size m amount (all_rest ++ others s.views id) l
+  fall_covered = falls_covered start.tree s.words limits_are k.layout.wide n size m amount (all_rest ++ others s.views id) l
 
   pub fall_small : found < 2 ^ 63
-  fall_small = held_small start s k m (falls_there start.tree s.words k.layout.limits k.layout.wide n size m amount
-      (all_rest ++ others s.views id) l)
+  fall_small = held_small start s k m fall_there
 
   after_charges : settled c all_rest ≡ its_charges w
   after_charges = go (is_in c.phase) ∙ ap (λ (x : List Claim). (x ++ charges_of chunks) ++ charges_of v.offer.chunks) (sym charges_are)
@@ -148,9 +147,9 @@ module _ (start : Start) (s : State Said View) (homes : List (option.Option Said
         set s.views id w;
   })) (let h = fall_covered in let z = fall_small in omega arith)
       (step_kept start s homes id v w k at (held_word m) (found - amount) (SubtractHeld amount) (record {
-        lawful = fall_moves start.tree s.words s.views id v w at k.layout.limits k.layout.wide n size m amount all_rest l
+        lawful = fall_moves start.tree s.words s.views id v w at limits_are k.layout.wide n size m amount all_rest l
             (same_path (settled c all_rest) (its_charges w) after_charges);
-        limits = λ j h. get_or-set_other s.words (held_word m) (limit_word j) (found - amount) 0 (λ q. omega arith);
+        fixed = λ j h. fixed_in-held j m (found - amount) s.words;
         next = (let o = get_or-set_other s.words (held_word m) number_word (found - amount) 0 (λ q. omega arith) in omega arith);
         bounded = omega arith;
         made = λ f. (let q = sum_by_push f v.own.own_steps e in let z = ap (of_view (made f)) view in omega arith);
@@ -172,6 +171,8 @@ module _ (start : Start) (s : State Said View) (homes : List (option.Option Said
               },
               good_longer k.history e v.offer old.1,
             ));
+        known = subst (λ (y : View). All (IsKnown start) y.known) (sym view)
+            (known_more start m v.known fall_there (k.known id v at));
       }))
     where
       zeros : (b : Bool) → ◌≡◌ {A = ℕ} (cond b 0 0) 0
@@ -186,60 +187,44 @@ pub falls_allowed : (slots id : ℕ) (me : Me Said View) (n size m amount : ℕ)
 falls_allowed slots id me n size m amount k₀ chunks rest is down s k _ at _ =
     let found : ℕ = slice_index s.words (held_word m) in
     let e = entry (length k.history) (held_word m) (SubtractHeld amount) found in
-    let w = stepping (falling me.0.start.tree) me.0 e in
     let tree = me.0.start.tree in
+    let f = node tree m in
+    let w = stepping (falling m f) (knowing m f me.0) e in
     let d = claim_at n (Down size m amount) in
-    let k₁ = charged_as k₀ (settled (fallen tree found d) rest) in
-    let view : w ≡ record {
-      start = me.0.start;
-      own = record {
-        own_steps = me.0.own.own_steps ++ e ∷ [];
-        observed = me.0.own.observed;
-        bytes = me.0.own.bytes;
-        turns = me.0.own.turns;
-        chunks = k₁ ∷ chunks;
-      };
-      offer = me.0.offer;
-    } =
-    λ j. record {
-      start = me.0.start;
-      own = record {
-        own_steps = me.0.own.own_steps ++ e ∷ [];
-        observed = me.0.own.observed;
-        bytes =
-            me.0.own.bytes;
-        turns = me.0.own.turns;
-        chunks = chunks_fallen tree found j;
-      };
-      offer = me.0.offer;
-    } in
+    let k₁ = charged_as k₀ (settled (fallen m f found d) rest) in
+    let view : w ≡ fell me.0 m f e (k₁ ∷ chunks) = λ j. fell me.0 m f e (chunks_fallen f found j) in
     let l = claims_out (rows_of tree 0 s.words) s.views id me.0 (d ∷ ((rest ++ charges_of chunks) ++ charges_of me.0.offer.chunks)) at
     (same_path (its_charges me.0) (d ∷ ((rest ++ charges_of chunks) ++ charges_of me.0.offer.chunks)) (first_charges me.0 k₀ chunks is
     ∙ ap (λ (x : List Claim). (x ++ charges_of chunks) ++ charges_of me.0.offer.chunks) down)) k.accounts in
-    let good = good_fallen tree found in (
+    let good = good_fallen f found in
+    let there = fall_there me.0.start s s.homes id me.0 w k at n size m amount k₀ k₁ chunks rest is good refl refl refl view l in (
       w,
       keeps,
       tt,
       fall_kept me.0.start s s.homes id me.0 w k at n size m amount k₀ k₁ chunks rest is good refl refl refl view l,
       (
-        (length k.history, refl),
+        at_level (SubtractHeld amount) falling m found me.0 w (record {
+          fixed = f;
+          made = (length k.history, refl);
+          after_parent = comes_after me.0.start s k m there;
+        }),
         refl,
         fall_covered me.0.start s s.homes id me.0 w k at n size m amount k₀ k₁ chunks rest is good refl refl refl view l,
         fall_small me.0.start s s.homes id me.0 w k at n size m amount k₀ k₁ chunks rest is good refl refl refl view l,
       ),
     )
   where
-    chunks_fallen : (tree : List Fixed) (found : ℕ) →
-        first_chunk (λ k. charged_as k (falling_charges tree found k.charges)) me.0.own.chunks
-        ≡ charged_as k₀ (settled (fallen tree found (claim_at n (Down size m amount))) rest) ∷ chunks
-    chunks_fallen tree found = ap (first_chunk (λ (k : Chunk). charged_as k (falling_charges tree found k.charges))) is
-        ∙ ap (λ (x : List Claim). charged_as k₀ (falling_charges tree found x) ∷ chunks) down
+    chunks_fallen : (f : Fixed) (found : ℕ) →
+        first_chunk (λ k. charged_as k (falling_charges m f found k.charges)) me.0.own.chunks
+        ≡ charged_as k₀ (settled (fallen m f found (claim_at n (Down size m amount))) rest) ∷ chunks
+    chunks_fallen f found = ap (first_chunk (λ (k : Chunk). charged_as k (falling_charges m f found k.charges))) is
+        ∙ ap (λ (x : List Claim). charged_as k₀ (falling_charges m f found x) ∷ chunks) down
 
-    good_fallen : (tree : List Fixed) (found : ℕ) → IsGoodChunk k₀ →
-        IsGoodChunk (charged_as k₀ (settled (fallen tree found (claim_at n (Down size m amount))) rest))
-    good_fallen tree found g =
+    good_fallen : (f : Fixed) (found : ℕ) → IsGoodChunk k₀ →
+        IsGoodChunk (charged_as k₀ (settled (fallen m f found (claim_at n (Down size m amount))) rest))
+    good_fallen f found g =
         let q = subst (All (λ (x : Claim). size_of x.phase ≤ k₀.size)) down g.whole in
-        let r = settled_good tree found n size m amount k₀.size rest (All-head (λ (x : Claim). size_of x.phase ≤ k₀.size)
+        let r = settled_good f found n size m amount k₀.size rest (All-head (λ (x : Claim). size_of x.phase ≤ k₀.size)
         (claim_at n (Down size m amount)) rest q) (let a = ap length down in let b = g.few in omega arith)
         (All-tail (λ (x : Claim). size_of x.phase ≤ k₀.size) (claim_at n (Down size m amount)) rest q) in
         record { few = r.0; whole = r.1 }
@@ -273,48 +258,32 @@ pub turns_allowed : (slots id : ℕ) (me : Me Said View) (m size : ℕ) (phase :
 turns_allowed slots id me m size phase k₀ chunks rest is front can s k _ at _ =
     let found : ℕ = slice_index s.words (held_word m) in
     let e = entry (length k.history) (held_word m) (SubtractHeld size) found in
-    let w = stepping (turning me.0.start.tree) me.0 e in
     let tree = me.0.start.tree in
+    let f = node tree m in
+    let w = stepping (turning m f) (knowing m f me.0) e in
     let d = claim_at m (Down size m size) in
-    let k₁ = charged_as k₀ (settled (fallen tree found d) rest) in
+    let k₁ = charged_as k₀ (settled (fallen m f found d) rest) in
     let o = others s.views id in
     let all_rest : List Claim = (rest ++ charges_of chunks) ++ charges_of me.0.offer.chunks in
-    let view : w ≡ record {
-      start = me.0.start;
-      own = record {
-        own_steps = me.0.own.own_steps ++ e ∷ [];
-        observed = me.0.own.observed;
-        bytes = me.0.own.bytes;
-        turns = me.0.own.turns;
-        chunks = k₁ ∷ chunks;
-      };
-      offer = me.0.offer;
-    }
-    = λ j. record {
-      start = me.0.start;
-      own = record {
-        own_steps = me.0.own.own_steps ++ e ∷ [];
-        observed = me.0.own.observed;
-        bytes =
-            me.0.own.bytes;
-        turns = me.0.own.turns;
-        chunks = chunks_turned tree found j;
-      };
-      offer = me.0.offer;
-    } in
+    let view : w ≡ fell me.0 m f e (k₁ ∷ chunks) = λ j. fell me.0 m f e (chunks_turned f found j) in
     let l = turn_fixed (rows_of tree 0 s.words) m size (all_rest ++ o) phase can
     (claims_out (rows_of tree 0 s.words) s.views id me.0 (claim_at m phase ∷ all_rest) at
     (same_then (its_charges me.0) ((k₀.charges ++ charges_of chunks) ++ charges_of me.0.offer.chunks) (claim_at m phase ∷ all_rest)
     (same_path (its_charges me.0) ((k₀.charges ++ charges_of chunks) ++ charges_of me.0.offer.chunks) (first_charges me.0 k₀ chunks is))
     (same_before (k₀.charges ++ charges_of chunks) (claim_at m phase ∷ (rest ++ charges_of chunks)) (charges_of me.0.offer.chunks)
     (same_before k₀.charges (claim_at m phase ∷ rest) (charges_of chunks) in_front))) k.accounts) in
-    let good = good_turned tree found in (
+    let good = good_turned f found in
+    let there = fall_there me.0.start s s.homes id me.0 w k at m size m size k₀ k₁ chunks rest is good refl refl refl view l in (
       w,
       keeps,
       tt,
       fall_kept me.0.start s s.homes id me.0 w k at m size m size k₀ k₁ chunks rest is good refl refl refl view l,
       (
-        (length k.history, refl),
+        at_level (SubtractHeld size) turning m found me.0 w (record {
+          fixed = f;
+          made = (length k.history, refl);
+          after_parent = comes_after me.0.start s k m there;
+        }),
         refl,
         fall_covered me.0.start s s.homes id me.0 w k at m size m size k₀ k₁ chunks rest is good refl refl refl view l,
         fall_small me.0.start s s.homes id me.0 w k at m size m size k₀ k₁ chunks rest is good refl refl refl view l,
@@ -325,20 +294,20 @@ turns_allowed slots id me m size phase k₀ chunks rest is front can s k _ at _ 
     in_front = same_then k₀.charges (to_front (held_word m) k₀.charges) (claim_at m phase ∷ rest) (front_same (held_word m) k₀.charges)
         (same_path (to_front (held_word m) k₀.charges) (claim_at m phase ∷ rest) front)
 
-    chunks_turned : (tree : List Fixed) (found : ℕ) →
-        first_chunk (λ k. charged_as k (turning_charges tree found (to_front (held_word m) k.charges))) me.0.own.chunks
-        ≡ charged_as k₀ (settled (fallen tree found (claim_at m (Down size m size))) rest) ∷ chunks
-    chunks_turned tree found =
-        ap (first_chunk (λ (k : Chunk). charged_as k (turning_charges tree found (to_front (held_word m) k.charges)))) is
-        ∙ ap (λ (x : List Claim). charged_as k₀ (turning_charges tree found x) ∷ chunks) front
-        ∙ ap (λ (x : Claim). charged_as k₀ (settled (fallen tree found x) rest) ∷ chunks) (turned_is m size phase can)
+    chunks_turned : (f : Fixed) (found : ℕ) →
+        first_chunk (λ k. charged_as k (turning_charges m f found (to_front (held_word m) k.charges))) me.0.own.chunks
+        ≡ charged_as k₀ (settled (fallen m f found (claim_at m (Down size m size))) rest) ∷ chunks
+    chunks_turned f found =
+        ap (first_chunk (λ (k : Chunk). charged_as k (turning_charges m f found (to_front (held_word m) k.charges)))) is
+        ∙ ap (λ (x : List Claim). charged_as k₀ (turning_charges m f found x) ∷ chunks) front
+        ∙ ap (λ (x : Claim). charged_as k₀ (settled (fallen m f found x) rest) ∷ chunks) (turned_is m size phase can)
 
-    good_turned : (tree : List Fixed) (found : ℕ) → IsGoodChunk k₀ →
-        IsGoodChunk (charged_as k₀ (settled (fallen tree found (claim_at m (Down size m size))) rest))
-    good_turned tree found g =
+    good_turned : (f : Fixed) (found : ℕ) → IsGoodChunk k₀ →
+        IsGoodChunk (charged_as k₀ (settled (fallen m f found (claim_at m (Down size m size))) rest))
+    good_turned f found g =
         let q = same_all k₀.charges (claim_at m phase ∷ rest) in_front (λ (x : Claim). size_of x.phase ≤ k₀.size) g.whole in
         let h = All-head (λ (x : Claim). size_of x.phase ≤ k₀.size) (claim_at m phase) rest q in
-        let r = settled_good tree found m size m size k₀.size rest (turned_size m size k₀.size phase can h) (let a = ap length front in
+        let r = settled_good f found m size m size k₀.size rest (turned_size m size k₀.size phase can h) (let a = ap length front in
         let b = g.few in let d = front_length (held_word m) k₀.charges in omega arith)
         (All-tail (λ (x : Claim). size_of x.phase ≤ k₀.size) (claim_at m phase) rest q) in
         record { few = r.0; whole = r.1 }
@@ -373,6 +342,7 @@ forgets_allowed slots id i me k₀ chunks is empty s k _ at _ =
         },
         good_longer k.history e me.0.offer old.1,
       );
+      known = k.known id me.0 at;
     } in (
       w,
       keeps,

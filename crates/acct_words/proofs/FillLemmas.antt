@@ -12,11 +12,11 @@ use Rattle.acct_core.specs.declared.row.Row.{Row}
 use Rattle.acct_core.specs.Balance.{child_count}
 use Rattle.acct_core.specs.Rows.{is_at}
 use Rattle.acct_words.specs.declared.fixed.Fixed.{Fixed}
-use Rattle.acct_words.specs.Places.{number_word, held_word, limit_word}
-use Rattle.acct_words.specs.Rows.{no_node, node, parent_of, row_of, rows_of, HasParentsBefore}
+use Rattle.acct_words.specs.Places.{number_word, held_word, limit_word, reservation_word, parent_word}
+use Rattle.acct_words.specs.Rows.{no_node, node, parent_of, row_of, rows_of, fixed_in, HasParentsBefore}
 use Rattle.acct_words.specs.Rule.{reservations}
 use Rattle.acct_words.specs.Openings.{ReservesWithinLimit, ComeAfterParents, IsFixedTree, AreOpeningWords, held_below, AreFilledFrom}
-use Rattle.acct_words.proofs.RowLemmas.{rows_of-before}
+use Rattle.acct_words.proofs.RowLemmas.{rows_of-before, fixed_in-held}
 
 -- the number that there is, or 0
 abbrev or_zero : Option ℕ → ℕ
@@ -103,32 +103,78 @@ count_is tree n held limit m = refl
 
 module _ (tree : List Fixed) (t : IsFixedTree tree) (n : ℕ) (there : n < length tree) (words : List ℕ)
     (filled : AreFilledFrom tree (n + 1) words) where
-  -- the words with the limit written
+  -- the words with what is fixed of n written
   abbrev limited : List ℕ
-  limited = set words (limit_word n) (node tree n).limit
+  limited = set (set (set words (limit_word n) (node tree n).limit) (reservation_word n) (node tree n).reservation) (parent_word n)
+      (node tree n).parent.0
+
+  -- a word that is none of these is as before
+  limited-other : (i : ℕ) → i ≢ limit_word n → i ≢ reservation_word n → i ≢ parent_word n → slice_index limited i ≡ slice_index words i
+  limited-other i l r p =
+      get_or-set_other (set (set words (limit_word n) (node tree n).limit) (reservation_word n) (node tree n).reservation) (parent_word n) i
+      (node tree n).parent.0 0 p
+      ∙ get_or-set_other (set words (limit_word n) (node tree n).limit) (reservation_word n) i (node tree n).reservation 0 r
+      ∙ get_or-set_other words (limit_word n) i (node tree n).limit 0 l
+
+  -- there are as many
+  limited-length : length limited ≡ length words
+  limited-length = length-set (set (set words (limit_word n) (node tree n).limit) (reservation_word n) (node tree n).reservation)
+      (parent_word n) (node tree n).parent.0
+      ∙ length-set (set words (limit_word n) (node tree n).limit) (reservation_word n) (node tree n).reservation
+      ∙ length-set words (limit_word n) (node tree n).limit
 
   -- the number after n
   next_is : suc n ≡ n + 1
   next_is = omega arith
 
-  -- the place of the limit is there
+  -- the places of what is written are there
   pub limit_there : limit_word n < length words
   limit_there = let w = filled.wide in omega arith
 
+  pub reservation_there : reservation_word n < length (set words (limit_word n) (node tree n).limit)
+  reservation_there = let w = filled.wide in let e = length-set words (limit_word n) (node tree n).limit in omega arith
+
+  pub parent_word_there : parent_word n
+      < length (set (set words (limit_word n) (node tree n).limit) (reservation_word n) (node tree n).reservation)
+  parent_word_there = let w = filled.wide in let e = length-set words (limit_word n) (node tree n).limit in
+      let f = length-set (set words (limit_word n) (node tree n).limit) (reservation_word n) (node tree n).reservation in omega arith
+
   -- held words are as before
   held_limited : (m : ℕ) → slice_index limited (held_word m) ≡ slice_index words (held_word m)
-  held_limited m = get_or-set_other words (limit_word n) (held_word m) (node tree n).limit 0 (λ e. omega arith)
+  held_limited m = limited-other (held_word m) (λ e. omega arith) (λ e. omega arith) (λ e. omega arith)
 
   -- and what is held below
   below_limited : (k : ℕ) → held_below limited k ≡ held_below words k
-  below_limited k = below-other words (limit_word n) (node tree n).limit k (λ m l e. omega arith)
+  below_limited k =
+      let one = set words (limit_word n) (node tree n).limit in
+      let two = set one (reservation_word n) (node tree n).reservation in
+      below-other two (parent_word n) (node tree n).parent.0 k (λ m l e. omega arith)
+      ∙ below-other one (reservation_word n) (node tree n).reservation k (λ m l e. omega arith)
+      ∙ below-other words (limit_word n) (node tree n).limit k (λ m l e. omega arith)
 
-  -- limits from n on are there
-  limits_limited : (m : ℕ) → n ≤ m → m < length tree → slice_index limited (limit_word m) ≡ (node tree m).limit
-  limits_limited m h l = ⊎_elim
-      (λ (s : n < m). get_or-set_other words (limit_word n) (limit_word m) (node tree n).limit 0 (λ e. omega arith)
-      ∙ filled.limits m (omega arith) l)
-      (λ (s : m ≤ n). (let e : m ≡ n = omega arith in rw e (get_or-set_same words (limit_word n) (node tree n).limit 0 limit_there)))
+  -- what is fixed of n is there
+  fixed_here : fixed_in n limited ≡ node tree n
+  fixed_here =
+      let one = set words (limit_word n) (node tree n).limit in
+      let two = set one (reservation_word n) (node tree n).reservation in
+      λ j. record {
+        parent = record { 0 = get_or-set_same two (parent_word n) (node tree n).parent.0 0 parent_word_there j };
+        reservation = (get_or-set_other two (parent_word n) (reservation_word n) (node tree n).parent.0 0 (λ e. omega arith)
+            ∙ get_or-set_same one (reservation_word n) (node tree n).reservation 0 reservation_there) j;
+        limit = (get_or-set_other two (parent_word n) (limit_word n) (node tree n).parent.0 0 (λ e. omega arith)
+            ∙ get_or-set_other one (reservation_word n) (limit_word n) (node tree n).reservation 0 (λ e. omega arith)
+            ∙ get_or-set_same words (limit_word n) (node tree n).limit 0 limit_there) j;
+      }
+
+  -- and of all from n on
+  fixed_limited : (m : ℕ) → n ≤ m → m < length tree → fixed_in m limited ≡ node tree m
+  fixed_limited m h l = ⊎_elim
+      (λ (s : n < m). (λ j. record {
+        parent = record { 0 = limited-other (parent_word m) (λ e. omega arith) (λ e. omega arith) (λ e. omega arith) j };
+        reservation = limited-other (reservation_word m) (λ e. omega arith) (λ e. omega arith) (λ e. omega arith) j;
+        limit = limited-other (limit_word m) (λ e. omega arith) (λ e. omega arith) (λ e. omega arith) j;
+      }) ∙ filled.fixed m (omega arith) l)
+      (λ (s : m ≤ n). (let e : n ≡ m = omega arith in subst (λ (k : ℕ). fixed_in k limited ≡ node tree k) e fixed_here))
       (cases_lt n m)
 
   -- the rows from n on, after writes to words before those of the next
@@ -149,19 +195,24 @@ module _ (tree : List Fixed) (t : IsFixedTree tree) (n : ℕ) (there : n < lengt
 
   -- the later rows don't read the limit
   later_limited : rows_of (drop (suc n) tree) (n + 1) limited ≡ rows_of (drop (n + 1) tree) (n + 1) words
-  later_limited = ap (λ (k : ℕ). rows_of (drop k tree) (n + 1) limited) next_is
+  later_limited =
+      let one = set words (limit_word n) (node tree n).limit in
+      let two = set one (reservation_word n) (node tree n).reservation in
+      ap (λ (k : ℕ). rows_of (drop k tree) (n + 1) limited) next_is
+      ∙ rows_of-before (drop (n + 1) tree) (n + 1) (parent_word n) (node tree n).parent.0 two (omega arith)
+      ∙ rows_of-before (drop (n + 1) tree) (n + 1) (reservation_word n) (node tree n).reservation one (omega arith)
       ∙ rows_of-before (drop (n + 1) tree) (n + 1) (limit_word n) (node tree n).limit words (omega arith)
 
   -- the root has no parent at which it counts
   pub filled_root : n ≡ 0 → AreFilledFrom tree n limited
   filled_root zero_is = record {
-    wide = length-set words (limit_word n) (node tree n).limit ∙ filled.wide;
-    number = get_or-set_other words (limit_word n) number_word (node tree n).limit 0 (λ e. omega arith) ∙ filled.number;
+    wide = limited-length ∙ filled.wide;
+    number = limited-other number_word (λ e. omega arith) (λ e. omega arith) (λ e. omega arith) ∙ filled.number;
     held = λ m l. (
         let a = held_limited m in let b = filled.held m l in let c = counts_more limited m later_limited in
         let d : cond (is_at (parent_of n (node tree n)) m) (counted_at_parent (node tree n).reservation
         (slice_index limited (held_word n))) 0 ≡ 0 = rw zero_is refl in omega arith);
-    limits = limits_limited;
+    fixed = fixed_limited;
     reserved = rw zero_is (omega arith);
   }
 
@@ -196,8 +247,7 @@ module _ (tree : List Fixed) (t : IsFixedTree tree) (n : ℕ) (there : n < lengt
     added = set limited (held_word p) (slice_index words (held_word p) + counted)
 
     pub parent_there : held_word p < length limited
-    parent_there = let h = parent_before in let w = filled.wide in let e = length-set words (limit_word n) (node tree n).limit in
-        omega arith
+    parent_there = let h = parent_before in let w = filled.wide in let e = limited-length in omega arith
 
     added_is : added ≡ set limited (held_word p) (slice_index limited (held_word p) + counted)
     added_is = ap (λ (x : ℕ). set limited (held_word p) (x + counted)) (sym (held_limited p))
@@ -226,13 +276,11 @@ module _ (tree : List Fixed) (t : IsFixedTree tree) (n : ℕ) (there : n < lengt
     -- an allocator is counted at its parent
     pub filled_more : AreFilledFrom tree n added
     filled_more = record {
-      wide = length-set limited (held_word p) (slice_index words (held_word p) + counted)
-          ∙ length-set words (limit_word n) (node tree n).limit ∙ filled.wide;
+      wide = length-set limited (held_word p) (slice_index words (held_word p) + counted) ∙ limited-length ∙ filled.wide;
       number = get_or-set_other limited (held_word p) number_word (slice_index words (held_word p) + counted) 0 (λ e. omega arith)
-          ∙ get_or-set_other words (limit_word n) number_word (node tree n).limit 0 (λ e. omega arith) ∙ filled.number;
+          ∙ limited-other number_word (λ e. omega arith) (λ e. omega arith) (λ e. omega arith) ∙ filled.number;
       held = λ m l. ⊎_elim (at_m m l) (off_m m l) (cases_eq m p);
-      limits = λ m h l. get_or-set_other limited (held_word p) (limit_word m) (slice_index words (held_word p) + counted) 0
-          (λ e. omega arith) ∙ limits_limited m h l;
+      fixed = λ m h l. fixed_in-held m p (slice_index words (held_word p) + counted) limited ∙ fixed_limited m h l;
       reserved = (
           let h = parent_before in
           let a = below-add limited p counted n h parent_there in
@@ -284,7 +332,7 @@ filled_none tree words e = record {
   number = get_or-set_same words 16 1 0 (let w = wide_zeros in omega arith);
   held = λ n l. zeros n ∙ sym (ap (λ (t : List Fixed). sum_by (child_count n) (rows_of t (length tree) (set words 16 1)))
       (drop-length tree));
-  limits = λ n h l. absurd (omega arith);
+  fixed = λ n h l. absurd (omega arith);
   reserved = (let z = none (length tree) in omega arith);
 }
   where
@@ -301,4 +349,4 @@ filled_none tree words e = record {
 
 -- words that are filled from the first allocator on are those of the opening
 pub filled_all : (tree : List Fixed) (words : List ℕ) → AreFilledFrom tree 0 words → AreOpeningWords tree words
-filled_all tree words f = record { wide = f.wide; number = f.number; held = f.held; limits = λ n l. f.limits n (omega arith) l }
+filled_all tree words f = record { wide = f.wide; number = f.number; held = f.held; fixed = λ n l. f.fixed n (omega arith) l }

@@ -12,18 +12,20 @@ use Rattle.acct_core.specs.Phases.Phase.{Up}
 use Rattle.acct_core.specs.Phases.{size_of}
 use Rattle.acct_words.specs.Entries.StepKind.{AddHeld}
 use Rattle.acct_words.specs.Entries.{Entry}
+use Rattle.acct_words.specs.declared.fixed.Fixed.{Fixed}
 use Rattle.acct_words.specs.declared.rule.Said.{Said}
 use Rattle.acct_words.specs.Views.{Chunk, View}
 use Rattle.acct_words.specs.Places.{held_word}
-use Rattle.acct_words.specs.Rows.{charges_of}
+use Rattle.acct_words.specs.Rows.{node, charges_of}
 use Rattle.acct_words.specs.Moves.{risen, charged_as, first_chunk, forcing}
 use Rattle.acct_words.specs.Rule.{IsGoodChunk, IsSoundTable}
-use Rattle.acct_words.specs.Plays.{entry, stepping, Forces}
+use Rattle.acct_words.specs.Plays.{entry, stepping, knowing, Forces}
 use Rattle.acct_core.proofs.SameClaimsLemmas.{same_path}
 use Rattle.acct_words.proofs.ClaimLemmas.{its_charges}
+use Rattle.acct_words.proofs.RowLemmas.{limits_of}
 use Rattle.acct_words.proofs.AccountLemmas.{begin_moves}
-use Rattle.acct_words.proofs.KeptLemmas.{good_longer}
-use Rattle.acct_words.proofs.StepLemmas.{size_risen, steps_more, first_charges}
+use Rattle.acct_words.proofs.KeptLemmas.{good_longer, known_more}
+use Rattle.acct_words.proofs.StepLemmas.{size_risen, steps_more, first_charges, at_level, comes_after}
 use Rattle.acct_words.proofs.BoundLemmas.{IsAddition, addition_small, addition_kept}
 
 -- a chunk's size is forced onto m
@@ -37,11 +39,14 @@ module _ (slots id : ℕ) (me : Me Said View) (m size : ℕ) (k₀ : Chunk) (chu
   abbrev e : Entry
   e = entry (length k.history) (held_word m) (AddHeld size) found
 
+  abbrev f : Fixed
+  f = node me.0.start.tree m
+
   abbrev w : View
-  w = stepping (forcing me.0.start.tree m size) me.0 e
+  w = stepping (forcing size m f) (knowing m f me.0) e
 
   abbrev c : Claim
-  c = risen me.0.start.tree found (claim_at m (Up size m size true []))
+  c = risen m f found (claim_at m (Up size m size true []))
 
   abbrev k₁ : Chunk
   k₁ = charged_as k₀ (c ∷ k₀.charges)
@@ -56,12 +61,13 @@ module _ (slots id : ℕ) (me : Me Said View) (m size : ℕ) (k₀ : Chunk) (chu
   good_after g = record {
     few = omega arith;
     whole = All-cons (λ (x : Claim). size_of x.phase ≤ k₀.size) c k₀.charges (let z =
-        size_risen me.0.start.tree found m size m size true [] in omega arith) g.whole;
+        size_risen f found m size m size true [] in omega arith) g.whole;
   }
 
   force_addition : IsAddition me.0.start s s.homes id me.0 w k at m size (AddHeld size) there (λ n. refl) refl refl
   force_addition = record {
-    lawful = begin_moves me.0.start.tree s.words s.views id me.0 w at k.layout.limits k.layout.wide m size there true all_rest some_size
+    lawful = begin_moves me.0.start.tree s.words s.views id me.0 w at (limits_of me.0.start.tree s.words k.layout.fixed)
+        k.layout.wide m size there true all_rest some_size
         small
         (same_path (its_charges me.0) all_rest (first_charges me.0 k₀ chunks is))
         (same_path (c ∷ all_rest) (its_charges w) (sym (first_charges w k₁ chunks chunks_after)))
@@ -82,6 +88,7 @@ module _ (slots id : ℕ) (me : Me Said View) (m size : ℕ) (k₀ : Chunk) (chu
       },
       good_longer k.history e me.0.offer old.1,
     ));
+    known = known_more me.0.start m me.0.known there (k.known id me.0 at);
   }
 
 pub forces_allowed : (slots id : ℕ) (me : Me Said View) (m size : ℕ) (k₀ : Chunk) (chunks : List Chunk) → me.0.own.chunks ≡ k₀ ∷ chunks →
@@ -96,9 +103,11 @@ forces_allowed slots id me m size k₀ chunks is one size_is some_size small the
       tt,
       addition_kept me.0.start s s.homes id me.0 v k at m size (AddHeld size) there (λ n. refl) refl refl b,
       (
-        m,
-        refl,
-        (length k.history, refl),
+        at_level (AddHeld size) (forcing size) m (slice_index s.words (held_word m)) me.0 v (record {
+          fixed = node me.0.start.tree m;
+          made = (length k.history, refl);
+          after_parent = comes_after me.0.start s k m there;
+        }),
         refl,
         addition_small me.0.start s s.homes id me.0 v k at m size (AddHeld size) there
             (λ n. refl) refl refl b,

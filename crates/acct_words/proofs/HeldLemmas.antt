@@ -37,7 +37,7 @@ use Rattle.acct_words.specs.Openings.{given_nodes, held_uncharged}
 use Rattle.acct_words.specs.Rule.{IsSoundTable, KnowsHistory, reservations}
 use Rattle.acct_words.specs.Plays.{entry, stepping, IsAllGivenBack, TellsHeld, Looks}
 use Rattle.acct_words.proofs.ViewLemmas.{at_most}
-use Rattle.acct_words.proofs.RowLemmas.{rows_of-at}
+use Rattle.acct_words.proofs.RowLemmas.{rows_of-at, limits_of}
 use Rattle.acct_words.proofs.ClaimLemmas.{claims_of-sum}
 use Rattle.acct_words.proofs.AccountLemmas.{row_open, held_bounded}
 use Rattle.acct_words.proofs.BoundLemmas.{its_size, views_bound, held_small}
@@ -150,7 +150,7 @@ module _ (start : Start) (s : State Said View) (k : IsSoundTable start s) where
   uncharged_holds empty m there =
       let h = held_law rows claims k.accounts in
       let a = ap (λ (r : Row). r.held) (rows_of-at start.tree 0 m m s.words there (omega arith)) in
-      let b = rows_hold empty m (row_open start.tree s.words k.layout.limits m there) in
+      let b = rows_hold empty m (row_open start.tree s.words (limits_of start.tree s.words k.layout.fixed) m there) in
       let c = held_of-rows [] 0 rows (record {
         made = h.tree.made;
         smaller = λ i p e. (let l = h.tree.smaller i p e in omega arith);
@@ -159,7 +159,7 @@ module _ (start : Start) (s : State Said View) (k : IsSoundTable start s) where
       }) m in
       let d = ap (λ (nodes : List TreeNode). held_of nodes [] m) (given_nodes-rows start.tree 0 s.words
       (λ i l. subst (λ (n : ℕ). slice_index s.words (limit_word n) ≡ (node start.tree i).limit) (zero_before i)
-      (k.layout.limits i l))) in
+      (limits_of start.tree s.words k.layout.fixed i l))) in
       omega arith
     where
       zero_before : (i : ℕ) → i ≡ 0 + i

@@ -1,11 +1,12 @@
 -- The rule after a step that stands in the history.
-use Rattle.std.proofs.Common.{◌≡◌, ℕ, ◌+◌, ◌*◌, ◌<◌, ◌≤◌, ◌≢◌, List, [], ◌∷◌, ◌++◌, length, set, slice_index, refl, ◌∙◌, subst, arith}
+use Rattle.std.proofs.Common.{◌≡◌, ℕ, ◌+◌, ◌*◌, ◌<◌, ◌≤◌, ◌≢◌, List, [], ◌∷◌, ◌++◌, length, set, slice_index, refl, sym, ap, ◌∙◌, subst, arith, Some, ne_eqb}
 use Rattle.std.proofs.Common.{sum_by, sum, All, ⊎_elim, length-set, eqb, eq-eqb, Bool, true, false, cond}
 use mathlib.Core.Option as option
 use mathlib.Core.Option.{some}
 use lib.ListN.{get_elem?}
 use Rattle.std.proofs.lemmas.Bool.{cases_eq}
-use Rattle.std.proofs.lemmas.List.Elements.{All-append, All-nil, All-push, All-weaker}
+use Rattle.std.proofs.lemmas.Option.{same_Some}
+use Rattle.std.proofs.lemmas.List.Elements.{All-append, All-cons, All-head, All-tail, All-nil, All-push, All-weaker}
 use Rattle.std.proofs.lemmas.List.Sums.{sum-map, sum_by_push}
 use Rattle.atomic_table.specs.Table.{State}
 use Rattle.atomic_table.proofs.Lists.{at_set, at_longer}
@@ -14,13 +15,13 @@ use Rattle.acct_words.specs.Entries.{StepKind, Entry, size_begun, size_forgotten
 use Rattle.acct_words.specs.Entries.{InHistory}
 use Rattle.acct_words.specs.Entries.StepKind.{LoadWord, DrawChunkNumber, BeginCharge, AddHeld, SubtractHeld, ForgetChunk}
 use Rattle.acct_words.specs.declared.fixed.Fixed.{Fixed}
-use Rattle.acct_words.specs.Views.{Start, Body, View}
+use Rattle.acct_words.specs.Views.{Start, Known, Body, View}
 use Rattle.acct_words.specs.declared.rule.Said.{Said}
-use Rattle.acct_words.specs.Places.{number_word, limit_word}
+use Rattle.acct_words.specs.Places.{number_word}
 use Rattle.acct_words.specs.Bodies.{nothing, plus, of_view, made, bytes_left, turns_left, chunk_sizes, numbered}
-use Rattle.acct_words.specs.Rows.{shown}
-use Rattle.acct_words.specs.Rule.{reservations, IsBounded, IsNumbered, IsHistory, IsGoodChunk, IsGoodBody, IsGoodView, IsSoundTable}
-use Rattle.acct_words.specs.Plays.{entry}
+use Rattle.acct_words.specs.Rows.{node, fixed_in, shown}
+use Rattle.acct_words.specs.Rule.{reservations, IsBounded, IsNumbered, IsHistory, IsGoodChunk, IsGoodBody, IsGoodView, IsKnown, IsSoundTable}
+use Rattle.acct_words.specs.Plays.{entry, known_at}
 use Rattle.acct_words.proofs.ViewLemmas.{total_set}
 
 -- steps of a history stand in a longer one
@@ -78,7 +79,7 @@ module _ (start : Start) (s : State Said View) (homes : List (option.Option Said
   -- what a step owes
   pub record IsStep : Type 0 where
     pub lawful : IsLawfulFixedTree (shown start.tree (set s.words i new) (set s.views id w))
-    pub limits : (m : ℕ) → m < length start.tree → slice_index (set s.words i new) (limit_word m) ≡ slice_index s.words (limit_word m)
+    pub fixed : (m : ℕ) → m < length start.tree → fixed_in m (set s.words i new) ≡ fixed_in m s.words
     pub next : slice_index (set s.words i new) number_word ≡ slice_index s.words number_word + draw_count act
     pub bounded : reached act n ≤ 2 * (sum_by begun k.history + size_begun act) + sum (reservations start.tree)
     pub made : (f : Entry → ℕ) → of_view (made f) w ≡ of_view (made f) v + f e
@@ -88,6 +89,7 @@ module _ (start : Start) (s : State Said View) (homes : List (option.Option Said
     pub numbers : (m : ℕ) → of_view (numbered m) w ≤ of_view (numbered m) v + drew m e
     pub fresh : (m : ℕ) → m ≢ slice_index s.words number_word → drew m e ≡ 0
     pub good : IsGoodView history w
+    pub known : All (IsKnown start) w.known
 
   module _ (c : IsStep) where
     -- at most one entry draws a number
@@ -143,7 +145,7 @@ module _ (start : Start) (s : State Said View) (homes : List (option.Option Said
       layout = record {
         small = k.layout.small;
         wide = length-set s.words i new ∙ k.layout.wide;
-        limits = λ m h. c.limits m h ∙ k.layout.limits m h;
+        fixed = λ m h. c.fixed m h ∙ k.layout.fixed m h;
       };
       accounts = c.lawful;
       steps = record {
@@ -154,6 +156,8 @@ module _ (start : Start) (s : State Said View) (homes : List (option.Option Said
       tokens = λ j x g. ⊎_elim
           (λ q. subst (IsGoodView history) q.1 c.good)
           (λ q. (let o = k.tokens j x q.1 in (good_longer k.history e x.own o.0, good_longer k.history e x.offer o.1)))
+          (at_set s.views id j w x g);
+      known = λ j x g. ⊎_elim (λ q. subst (λ (y : View). All (IsKnown start) y.known) q.1 c.known) (λ q. k.known j x q.1)
           (at_set s.views id j w x g);
       budget = record {
         bytes = (let t = total_set bytes_left s.views id v w at in let q = sum_by_push begun k.history e in let p = k.budget.bytes in
@@ -183,3 +187,25 @@ module _ (start : Start) (s : State Said View) (homes : List (option.Option Said
             none : (b : Bool) (a : StepKind) → draw_count a ≡ 0 → cond b (draw_count a) 0 ≡ 0
             none false a z = refl
             none true a z = z
+
+-- what a token knows stays so where it learns what is fixed of one allocator more
+pub known_more : (start : Start) (m : ℕ) (known : List Known) → m < length start.tree → All (IsKnown start) known →
+    All (IsKnown start) (record { level = m; fixed = node start.tree m } ∷ known)
+known_more start m known there h = All-cons (IsKnown start) (record { level = m; fixed = node start.tree m }) known
+    (record { inside = there; fixed = refl }) h
+
+-- and what it knows of a level is so
+pub known_is : (start : Start) (level : ℕ) (fixed : Fixed) (known : List Known) → All (IsKnown start) known →
+    known_at level known ≡ Some fixed → (level < length start.tree) × (node start.tree level ≡ fixed)
+known_is start level fixed [] h e = absurd cc
+known_is start level fixed (q ∷ known) h e = ⊎_elim
+    (λ (same : q.level ≡ level). (
+    let its = All-head (IsKnown start) q known h in
+    let f : Some q.fixed ≡ Some fixed = subst (λ (b : Bool). cond b (Some q.fixed) (known_at level known) ≡ Some fixed)
+    (eq-eqb q.level level same) e in (
+      subst (λ (n : ℕ). n < length start.tree) same its.inside,
+      ap (λ (n : ℕ). node start.tree n) (sym same) ∙ its.fixed ∙ same_Some q.fixed fixed f,
+    )))
+    (λ (ne : q.level ≢ level). known_is start level fixed known (All-tail (IsKnown start) q known h)
+    (subst (λ (b : Bool). cond b (Some q.fixed) (known_at level known) ≡ Some fixed) (ne_eqb q.level level ne) e))
+    (cases_eq q.level level)

@@ -1,7 +1,6 @@
 -- Loads, and the drawing of a number, which change no account.
 use Rattle.std.proofs.Common.{◌≡◌, ℕ, ◌+◌, ◌%◌, ◌^◌, ◌<◌, ◌≤◌, Bool, true, false, cond, ◌==◌, List, [], ◌∷◌, ◌++◌, length, set}
-use Rattle.std.proofs.Common.{slice_index, refl, sym, ap, subst, arith, sum_by, All, mod-eq_of_lt, ne_eqb, get_or-set_same}
-use Rattle.std.proofs.Common.{get_or-set_other}
+use Rattle.std.proofs.Common.{slice_index, refl, sym, ap, ◌∙◌, subst, arith, sum_by, All, Some, mod-eq_of_lt, ne_eqb, get_or-set_same}
 use mathlib.Core.Option as option
 use mathlib.Core.Option.{some, none}
 use lib.ListN.{get_elem?}
@@ -15,20 +14,21 @@ use Rattle.acct_core.specs.Phases.{size_of}
 use Rattle.acct_words.specs.Entries.StepKind.{LoadWord, DrawChunkNumber, ForgetChunk}
 use Rattle.acct_words.specs.Entries.{StepKind, Entry, InHistory, size_begun, size_forgotten, reached, draw_count}
 use Rattle.acct_words.specs.Views.{Start, Chunk, Body, View}
+use Rattle.acct_words.specs.declared.fixed.Fixed.{Fixed}
 use Rattle.acct_words.specs.declared.rule.Said.{Said}
-use Rattle.acct_words.specs.Places.{number_word, limit_word}
+use Rattle.acct_words.specs.Places.{number_word}
 use Rattle.acct_words.specs.Bodies.{nothing, of_view, made, numbered, chunk_sizes, bytes_left, turns_left}
-use Rattle.acct_words.specs.Rows.{charges_of, claims_of, rows_of}
-use Rattle.acct_words.specs.Moves.{drawing, reading, other_chunks, one_chunk, parting, parted}
-use Rattle.acct_words.specs.Rule.{IsHistory, IsGoodChunk, IsGoodView, IsSoundTable, KnowsHistory}
-use Rattle.acct_words.specs.Plays.{entry, stepping, Draws, Reads, Parts}
+use Rattle.acct_words.specs.Rows.{charges_of, claims_of, rows_of, fixed_in}
+use Rattle.acct_words.specs.Moves.{drawing, reading, other_chunks, one_chunk}
+use Rattle.acct_words.specs.Rule.{IsHistory, IsGoodChunk, IsGoodView, IsKnown, IsSoundTable, KnowsHistory}
+use Rattle.acct_words.specs.Plays.{entry, stepping, known_at, parting_view, Draws, Reads, Parts}
 use Rattle.acct_words.proofs.ViewLemmas.{at_most}
-use Rattle.acct_words.proofs.RowLemmas.{rows_of-before}
+use Rattle.acct_words.proofs.RowLemmas.{rows_of-before, fixed_in-other}
 use Rattle.acct_core.specs.SameClaims.{SameClaims}
 use Rattle.acct_core.proofs.SameClaimsLemmas.{same_from, same_self, same_then, same_path, All-left, All-right}
 use Rattle.acct_words.proofs.ClaimLemmas.{its_charges}
 use Rattle.acct_words.proofs.AccountLemmas.{claims_move}
-use Rattle.acct_words.proofs.KeptLemmas.{IsStep, step_legal, step_kept, good_longer}
+use Rattle.acct_words.proofs.KeptLemmas.{IsStep, step_legal, step_kept, good_longer, known_is}
 use Rattle.acct_words.proofs.StepLemmas.{steps_more}
 
 -- a step that leaves its word as it is, begins nothing and draws no number
@@ -61,12 +61,13 @@ module _ (start : Start) (s : State Said View) (homes : List (option.Option Said
     pub sizes : of_view chunk_sizes w + size_forgotten act ≤ of_view chunk_sizes v
     pub numbers : (m : ℕ) → of_view (numbered m) w ≤ of_view (numbered m) v
     pub good : IsGoodView (k.history ++ e ∷ []) w
+    pub known : All (IsKnown start) w.known
 
   -- it is a step
   pub load_step : IsLoad → IsStep start s homes id v w k at i (slice_index s.words i) act
   load_step c = record {
     lawful = rw (set-get_or s.words i 0) (claims_move (rows_of start.tree 0 s.words) s.views id v w at c.claims k.accounts);
-    limits = λ m h. ap (λ (l : List ℕ). slice_index l (limit_word m)) (set-get_or s.words i 0);
+    fixed = λ m h. ap (fixed_in m) (set-get_or s.words i 0);
     next = (let q : slice_index (set s.words i (slice_index s.words i)) number_word ≡ slice_index s.words number_word =
         ap (λ (l : List ℕ). slice_index l number_word) (set-get_or s.words i 0) in let z = c.quiet.draws in omega arith);
     bounded = (let z = c.quiet.reaches (slice_index s.words i) in omega arith);
@@ -77,6 +78,7 @@ module _ (start : Start) (s : State Said View) (homes : List (option.Option Said
     numbers = λ m. (let p = c.numbers m in omega arith);
     fresh = λ m ne. zero_cond (slice_index s.words i == m) (draw_count act) c.quiet.draws;
     good = c.good;
+    known = c.known;
   }
     where
       zero_cond : (b : Bool) (x : ℕ) → x ≡ 0 → cond b x 0 ≡ 0
@@ -125,18 +127,29 @@ reading_owed start s id v k at i =
         },
         good_longer k.history e v.offer old.1,
       );
+      known = k.known id v at;
     }
 
--- the limit of a level is read
-pub reads_allowed : (slots id : ℕ) (me : Me Said View) (m : ℕ) → m < length me.0.start.tree →
-    Allows (IsSoundTable me.0.start) slots id me (limit_word m) (λ n. n) (Reads (step slots (limit_word m) 0 0 none) me)
-reads_allowed slots id me m there s k _ at _ =
-    let w = stepping reading me.0 (entry (length k.history) (limit_word m) LoadWord (slice_index s.words (limit_word m))) in (
+-- what is fixed of a level is read
+pub reads_allowed : (slots id i : ℕ) (me : Me Said View) → Allows (IsSoundTable me.0.start) slots id me i (λ n. n)
+    (Reads (step slots i 0 0 none) me)
+reads_allowed slots id i me s k _ at _ =
+    let w = stepping reading me.0 (entry (length k.history) i LoadWord (slice_index s.words i)) in
+    let is : (level : ℕ) (fixed : Fixed) → known_at level me.0.known ≡ Some fixed → fixed_in level s.words ≡ fixed =
+    λ level fixed e. (let q = known_is me.0.start level fixed me.0.known (k.known id me.0 at) e in k.layout.fixed level q.0 ∙ q.1) in (
       w,
       keeps,
       tt,
-      load_kept me.0.start s s.homes id me.0 w k at (limit_word m) LoadWord (reading_owed me.0.start s id me.0 k at (limit_word m)),
-      (m, refl, (length k.history, refl), refl, k.layout.limits m there),
+      load_kept me.0.start s s.homes id me.0 w k at i LoadWord (reading_owed me.0.start s id me.0 k at i),
+      (
+        (length k.history, refl),
+        refl,
+        record {
+          limit = λ level same fixed e. ap (slice_index s.words) same ∙ ap (λ (f : Fixed). f.limit) (is level fixed e);
+          reservation = λ level same fixed e. ap (slice_index s.words) same ∙ ap (λ (f : Fixed). f.reservation) (is level fixed e);
+          parent = λ level same fixed e. ap (slice_index s.words) same ∙ ap (λ (f : Fixed). f.parent.0) (is level fixed e);
+        },
+      ),
     )
 
 -- the first chunk is offered to the next split
@@ -145,7 +158,7 @@ pub parts_allowed : (slots id i : ℕ) (me : Me Said View) (k₀ : Chunk) (chunk
     → Allows (IsSoundTable me.0.start) slots id me i (λ n. n) (Parts (step slots i 0 0 none) me)
 parts_allowed slots id i me k₀ chunks is none_offered s k _ at _ =
     let e = entry (length k.history) i LoadWord (slice_index s.words i) in
-    let w : View = record { start = me.0.start; own = parting me.0.own e; offer = parted me.0.own } in
+    let w : View = parting_view me.0 (length k.history) i (slice_index s.words i) in
     let a : w.own.chunks ≡ chunks = ap other_chunks is in
     let b : w.offer.chunks ≡ k₀ ∷ [] = ap one_chunk is in
     let o : me.0.offer.chunks ≡ [] = ap (λ (b : Body). b.chunks) none_offered in
@@ -175,6 +188,7 @@ parts_allowed slots id i me k₀ chunks is none_offered s k _ at _ =
               subst (All IsGoodChunk) (sym b) (All-cons IsGoodChunk k₀ [] (All-head IsGoodChunk k₀ chunks its) (All-nil IsGoodChunk));
         },
       );
+      known = k.known id me.0 at;
     } in (
       w,
       keeps,
@@ -213,7 +227,7 @@ draws_allowed slots id me turn s k _ at _ =
       lawful = subst (λ r. IsLawfulFixedTree (account r (claims_of (set s.views id w))))
           (sym (rows_of-before me.0.start.tree 0 number_word (n + 1) s.words (omega arith)))
           (claims_move (rows_of me.0.start.tree 0 s.words) s.views id me.0 w at (same_self (its_charges me.0)) k.accounts);
-      limits = λ m h. get_or-set_other s.words number_word (limit_word m) (n + 1) 0 (λ q. omega arith);
+      fixed = λ m h. fixed_in-other m number_word (n + 1) s.words (λ q. omega arith) (λ q. omega arith) (λ q. omega arith);
       next = get_or-set_same s.words number_word (n + 1) 0 (let q = k.layout.wide in omega arith);
       bounded = omega arith;
       made = λ f. (let q = sum_by_push f me.0.own.own_steps e in omega arith);
@@ -234,6 +248,7 @@ draws_allowed slots id me turn s k _ at _ =
         },
         good_longer k.history e me.0.offer old.1,
       ));
+      known = k.known id me.0 at;
     }) in (
       w,
       keeps,

@@ -1,6 +1,6 @@
 -- The rule at the opening.
 use Rattle.std.proofs.Common.{zero, suc, ◌≡◌, ℕ, ◌<◌, ◌≤◌, true, false, List, [], ◌∷◌, length, Some, None, refl, sym, ap, ◌∙◌, subst}
-use Rattle.std.proofs.Common.{arith, ⊎_elim}
+use Rattle.std.proofs.Common.{arith, All, ⊎_elim}
 use mathlib.Core.Option.{some, some-injective, some-ne-none}
 use lib.ListN.{get_elem?}
 use Rattle.std.proofs.lemmas.List.{get_or_past}
@@ -18,7 +18,7 @@ use Rattle.acct_words.specs.declared.rule.Said.{Said}
 use Rattle.acct_words.specs.Views.{View}
 use Rattle.acct_words.specs.Entries.{InHistory}
 use Rattle.acct_words.specs.Rows.{node, parent_of, rows_of, HasParentsBefore}
-use Rattle.acct_words.specs.Rule.{start_of, first, IsSoundTable, IsBounded, IsNumbered, IsGoodChunk, IsGoodView}
+use Rattle.acct_words.specs.Rule.{start_of, first, IsSoundTable, IsBounded, IsNumbered, IsGoodChunk, IsGoodView, IsKnown}
 use Rattle.acct_words.specs.Openings.{AreOpeningWords, IsFixedTree, IsWithinBudget}
 use Rattle.acct_words.proofs.FillLemmas.{parents_before, reservations_small}
 use Rattle.acct_words.proofs.RowLemmas.{rows_of-length, rows_of-at}
@@ -101,7 +101,7 @@ opening_sound o words t c w = record {
           reservations_small o.nodes.items t;
     };
     wide = w.wide;
-    limits = w.limits;
+    fixed = w.fixed;
   };
   accounts = opening_lawful o.nodes.items words (parents_before o.nodes.items t.parents) w;
   steps = record {
@@ -115,6 +115,7 @@ opening_sound o words t c w = record {
     };
   };
   tokens = good_first;
+  known = known_first;
   budget = record { bytes = omega arith; turns = omega arith; sizes = omega arith };
   numbers = record { next = w.number; drawn = λ n. omega arith; fresh = λ n h. refl };
 }
@@ -125,3 +126,8 @@ opening_sound o words t c w = record {
       good_nothing [],
     )
     good_first (suc id) v e = absurd (some-ne-none v (sym e))
+
+    known_first : (id : ℕ) (v : View) → get_elem? (first (start_of o) ∷ []) id ≡ some v → All (IsKnown (start_of o)) v.known
+    known_first zero v e = subst (λ (y : View). All (IsKnown (start_of o)) y.known) (some-injective (first (start_of o)) v e)
+        (All-nil (IsKnown (start_of o)))
+    known_first (suc id) v e = absurd (some-ne-none v (sym e))

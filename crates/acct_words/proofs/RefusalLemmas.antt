@@ -13,8 +13,8 @@ use Rattle.acct_words.specs.Entries.StepKind.{LoadWord, DrawChunkNumber, BeginCh
 use Rattle.acct_words.specs.declared.fixed.Fixed.{Fixed}
 use Rattle.acct_words.specs.Views.{View}
 use Rattle.acct_words.specs.Rule.{reservations, IsBounded, KnowsHistory, KnowsWorstCase}
-use Rattle.acct_words.specs.Climbs.{Shows, amount_of, refusal_of, full_at}
-use Rattle.acct_words.specs.Climbs.Shows.{none, more}
+use Rattle.acct_words.specs.Climbs.{Climbs, amount_of, level_step, refusal_of, full_at}
+use Rattle.acct_words.specs.Climbs.Climbs.{begins, adds}
 use Rattle.acct_words.specs.Charges.{draw_entry, forget_entry, ViewRefuses}
 
 -- what holds of all holds of the one at a place
@@ -53,15 +53,18 @@ module _ (tree : List Fixed) (history : List Entry) (bounded : All (IsBounded tr
   abbrev IsWithin : LevelStep → Type 0
   IsWithin step = step.old + step.amount ≤ worst_case (map begun history) (reservations tree)
 
-  -- each step that the entries show is within the worst case
-  steps_within : {entries : List Entry} {steps : List LevelStep} → Shows entries steps → All (InHistory history) entries →
-      All IsWithin steps
-  steps_within none h = All-nil IsWithin
-  steps_within (more {entries = entries} {steps = steps} {step = step} {addition = addition} {limit = limit} shows level) h =
-      All-push IsWithin steps step (steps_within shows (All-left (InHistory history) entries (addition ∷ limit ∷ []) h))
+  -- each step of a way up is within the worst case
+  steps_within : {at size : ℕ} {entries : List Entry} {steps : List LevelStep} {next : Option (ℕ × ℕ)} →
+      Climbs at size entries steps next → All (InHistory history) entries → All IsWithin steps
+  steps_within begins h = All-nil IsWithin
+  steps_within (adds {entries = entries} {steps = steps} {level = level} {amount = amount} fixed addition limit reservation parent climb is)
+      h =
+      let more : List Entry = addition ∷ limit ∷ reservation ∷ parent ∷ [] in
+      All-push IsWithin steps (level_step level fixed amount addition.found)
+      (steps_within climb (All-left (InHistory history) entries more h))
       (let a = all_there (IsBounded tree history) history addition.name addition bounded (All-head (InHistory history) addition
-      (limit ∷ []) (All-right (InHistory history) entries (addition ∷ limit ∷ []) h)) in
-      let r = reached_is addition.kind addition.found step.amount level.added in let o = level.returned in omega arith)
+      (limit ∷ reservation ∷ parent ∷ []) (All-right (InHistory history) entries more h)) in
+      let r = reached_is addition.kind addition.found amount is.added in omega arith)
 
   -- and so is the refusal
   refusal_within : (at : ℕ) (steps : List LevelStep) (full : Full) → All IsWithin steps → refusal_of at steps ≡ Some full →
@@ -85,7 +88,7 @@ pub refused_within : (at size : ℕ) (v w : View) (full : Full) → ViewRefuses 
 refused_within at size v w full r k = record {
   known = k;
   bound = refusal_within w.start.tree k.history k.legal.bounded at r.steps full
-      (steps_within w.start.tree k.history k.legal.bounded r.shows its_entries) r.refusal;
+      (steps_within w.start.tree k.history k.legal.bounded r.climb its_entries) r.refusal;
 }
   where
     its_entries : All (InHistory k.history) r.entries

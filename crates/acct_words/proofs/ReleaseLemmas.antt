@@ -1,88 +1,123 @@
 -- One level more of a release.
-use Rattle.std.proofs.Common.{zero, suc, ◌≡◌, ℕ, ◌<◌, List, [], ◌∷◌, ◌++◌, Option, Some, None, length, refl, sym, ap, ◌∙◌, subst, arith}
+use Rattle.std.proofs.Common.{◌≡◌, ℕ, ◌<◌, List, [], ◌∷◌, ◌++◌, Option, Some, refl, sym, ap, ◌∙◌, subst}
 use Rattle.acct_core.specs.Claims.{Claim, claim_at}
-use Rattle.acct_core.specs.Effects.{passed, goes_back}
-use Rattle.acct_words.specs.Entries.StepKind.{SubtractHeld}
+use Rattle.acct_core.specs.Effects.{goes_back}
+use Rattle.acct_words.specs.Entries.StepKind.{LoadWord, SubtractHeld}
 use Rattle.acct_words.specs.Entries.{Entry}
 use Rattle.acct_words.specs.declared.fixed.Fixed.{Fixed}
-use Rattle.acct_words.specs.Views.{Chunk, View}
-use Rattle.acct_words.specs.Places.{held_word}
-use Rattle.acct_words.specs.Rows.{node, parent_of, HasParentsBefore}
+use Rattle.acct_words.specs.declared.level.Above.{Above}
+use Rattle.acct_words.specs.Views.{Chunk, Known, Body, View}
+use Rattle.acct_words.specs.Places.{held_word, reservation_word, parent_word}
 use Rattle.acct_core.specs.FixedTrees.{settled}
 use Rattle.acct_words.specs.Moves.{charged_as, first_chunk, fallen, to_front, falling_charges, turning_charges, falling, turning}
-use Rattle.acct_words.specs.Plays.{Steps, entry, stepping}
+use Rattle.acct_words.specs.Plays.{StepsAt, entry, stepping, knowing, known_at}
 use Rattle.acct_words.specs.Calls.{TurnsBack, GoesDown}
-use Rattle.acct_words.specs.Climbs.{IsInTree}
-use Rattle.acct_words.specs.Falls.{IsReleased, next_given, rest_of, released}
+use Rattle.acct_words.specs.Climbs.{IsAbove, IsInTree, ReadsAbove, above_read}
+use Rattle.acct_words.specs.Falls.{GoesDownLevel, IsReleased, next_given, rest_of, released}
 use Rattle.acct_words.specs.Falls.Descends.{starts, subtracts}
 use Rattle.acct_words.proofs.FallLemmas.{turned_is}
+use Rattle.acct_words.proofs.ClimbLemmas.{knows_level, passed_in_tree}
 
--- one entry more
-one_more : (xs ys : List Entry) (e : Entry) → (xs ++ ys) ++ e ∷ [] ≡ xs ++ (ys ++ e ∷ [])
-one_more [] ys e = refl
-one_more (x ∷ xs) ys e = ap (λ (l : List Entry). x ∷ l) (one_more xs ys e)
+-- three entries more
+three_more : (xs ys : List Entry) (a b c : Entry) → (((xs ++ ys) ++ a ∷ []) ++ b ∷ []) ++ c ∷ [] ≡ xs ++ (ys ++ a ∷ b ∷ c ∷ [])
+three_more [] [] a b c = refl
+three_more [] (y ∷ ys) a b c = ap (λ (l : List Entry). y ∷ l) (three_more [] ys a b c)
+three_more (x ∷ xs) ys a b c = ap (λ (l : List Entry). x ∷ l) (three_more xs ys a b c)
+
+-- three entries
+three_of : (xs : List Entry) (a b c : Entry) → ((xs ++ a ∷ []) ++ b ∷ []) ++ c ∷ [] ≡ xs ++ a ∷ b ∷ c ∷ []
+three_of [] a b c = refl
+three_of (x ∷ xs) a b c = ap (λ (l : List Entry). x ∷ l) (three_of xs a b c)
+
+-- a subtraction at a level, with the loads after it
+pub level_left : (level amount : ℕ) (make : ℕ → Fixed → Body → Entry → Body) (found : ℕ) (above : Above) (v w x : View)
+    (next : Option (ℕ × ℕ)) → StepsAt (SubtractHeld amount) make level found v w →
+    ((fixed : Fixed) → known_at level w.known ≡ Some fixed → ReadsAbove level above w x fixed) →
+    ((fixed : Fixed) → IsAbove above fixed → next ≡ next_given level fixed amount found) →
+    GoesDownLevel make level amount v x next
+level_left level amount make found above v w x next s reads further =
+    let r = reads s.fixed (knows_level (SubtractHeld amount) make level found v w s) in
+    record {
+      fixed = s.fixed;
+      found = found;
+      name = s.made.0;
+      second_name = r.second_name;
+      third_name = r.third_name;
+      view = r.view ∙ ap (above_read level s.fixed r.second_name r.third_name) s.made.1;
+      after_parent = s.after_parent;
+      next_is = further s.fixed r.above_is;
+    }
+
+-- the level that is released next is one of the tree
+pub given_in_tree : (count level amount : ℕ) (make : ℕ → Fixed → Body → Entry → Body) (v w : View) (next : Option (ℕ × ℕ)) →
+    GoesDownLevel make level amount v w next → level < count → IsInTree count next
+given_in_tree count level amount make v w next h there =
+    subst (IsInTree count) (sym h.next_is) (passed_in_tree count level h.fixed _ h.after_parent there)
 
 -- a release has begun
-pub release_begins : (tree : List Fixed) (at size found : ℕ) (v w : View) (next : Option (ℕ × ℕ)) → v.start.tree ≡ tree →
-    TurnsBack at size v → Steps (SubtractHeld size) (turning v.start.tree) (held_word at) found v w → next ≡ next_given tree at size found
-    → (entries : List Entry) × IsReleased at size v w entries next
-release_begins tree at size found v w next same t s n =
-    let e = entry s.0 (held_word at) (SubtractHeld size) found in
-    let further : Option (ℕ × ℕ) = next_given v.start.tree at size found in
-    let chunks : first_chunk (λ k. charged_as k (turning_charges v.start.tree found (to_front (held_word at) k.charges))) v.own.chunks
+pub release_begins : (at size : ℕ) (v w : View) (next : Option (ℕ × ℕ)) → TurnsBack at size v →
+    GoesDownLevel turning at size v w next → (entries : List Entry) × IsReleased at size v w entries next
+release_begins at size v w next t h =
+    let f = h.fixed in
+    let a = entry h.name (held_word at) (SubtractHeld size) h.found in
+    let b = entry h.second_name (reservation_word at) LoadWord f.reservation in
+    let c = entry h.third_name (parent_word at) LoadWord f.parent.0 in
+    let known : List Known = record { level = at; fixed = f } ∷ v.known in
+    let further : Option (ℕ × ℕ) = next_given at f size h.found in
+    let chunks : first_chunk (λ k. charged_as k (turning_charges at f h.found (to_front (held_word at) k.charges))) v.own.chunks
     ≡ first_chunk (released at size further) v.own.chunks
-    = ap (first_chunk (λ (k : Chunk). charged_as k (turning_charges v.start.tree found (to_front (held_word at) k.charges)))) t.is
-    ∙ ap (λ (l : List Claim). charged_as t.chunk (turning_charges v.start.tree found l) ∷ t.others) t.front
-    ∙ ap (λ (c : Claim). charged_as t.chunk (settled (fallen v.start.tree found c) t.rest) ∷ t.others) (turned_is at size t.phase t.turns)
+    = ap (first_chunk (λ (k : Chunk). charged_as k (turning_charges at f h.found (to_front (held_word at) k.charges)))) t.is
+    ∙ ap (λ (l : List Claim). charged_as t.chunk (turning_charges at f h.found l) ∷ t.others) t.front
+    ∙ ap (λ (c : Claim). charged_as t.chunk (settled (fallen at f h.found c) t.rest) ∷ t.others) (turned_is at size t.phase t.turns)
     ∙ ap (λ (l : List Claim). charged_as t.chunk (settled (claim_at at (goes_back further size)) (rest_of l)) ∷ t.others) (sym t.front)
     ∙ ap (first_chunk (released at size further)) (sym t.is) in (
-      e ∷ [],
-      subst (IsReleased at size v w (e ∷ [])) (sym (n ∙ ap (λ (l : List Fixed). next_given l at size found) (sym same))) (record {
-        descent = subtracts e starts refl refl;
-        view = s.1 ∙ (λ j. record {
-          start = v.start;
-          own = record {
-            own_steps = v.own.own_steps ++ e ∷ [];
-            observed = v.own.observed;
-            bytes = v.own.bytes;
-            turns = v.own.turns;
-            chunks = chunks j;
-          };
-          offer = v.offer;
+      a ∷ b ∷ c ∷ [],
+      subst (IsReleased at size v w (a ∷ b ∷ c ∷ [])) (sym h.next_is) (record {
+        descent = subtracts f a b c starts (record {
+          held = refl;
+          subtracted = refl;
+          reservation_is = record { word_is = refl; kind = refl; returned = refl };
+          parent_is = record { word_is = refl; kind = refl; returned = refl };
+        });
+        known = known;
+        view = h.view ∙ (λ j. record v {
+          known = known;
+          own = record (v.own) { own_steps = three_of v.own.own_steps a b c j; chunks = chunks j };
         });
       }),
     )
 
 -- a release has gone up one level more
-pub release_more : (tree : List Fixed) (at size m amount found : ℕ) (v w x : View) (next : Option (ℕ × ℕ)) → v.start.tree ≡ tree →
-    TurnsBack at size v → Steps (SubtractHeld amount) (falling w.start.tree) (held_word m) found w x → next ≡ next_given tree m amount found
-    → (entries : List Entry) × IsReleased at size v w entries (Some (m, amount)) →
+pub release_more : (at size m amount : ℕ) (v w x : View) (next : Option (ℕ × ℕ)) → TurnsBack at size v →
+    GoesDownLevel falling m amount w x next → (entries : List Entry) × IsReleased at size v w entries (Some (m, amount)) →
     (entries : List Entry) × IsReleased at size v x entries next
-release_more tree at size m amount found v w x next same t s n (entries, r) =
-    let e = entry s.0 (held_word m) (SubtractHeld amount) found in
-    let further : Option (ℕ × ℕ) = next_given v.start.tree m amount found in
-    let chunks : first_chunk (λ k. charged_as k (falling_charges v.start.tree found k.charges))
+release_more at size m amount v w x next t h (entries, r) =
+    let f = h.fixed in
+    let a = entry h.name (held_word m) (SubtractHeld amount) h.found in
+    let b = entry h.second_name (reservation_word m) LoadWord f.reservation in
+    let c = entry h.third_name (parent_word m) LoadWord f.parent.0 in
+    let known : List Known = record { level = m; fixed = f } ∷ r.known in
+    let further : Option (ℕ × ℕ) = next_given m f amount h.found in
+    let chunks : first_chunk (λ k. charged_as k (falling_charges m f h.found k.charges))
     (first_chunk (released at size (Some (m, amount))) v.own.chunks) ≡ first_chunk (released at size further) v.own.chunks
-    = ap (λ (l : List Chunk). first_chunk (λ (k : Chunk). charged_as k (falling_charges v.start.tree found k.charges))
+    = ap (λ (l : List Chunk). first_chunk (λ (k : Chunk). charged_as k (falling_charges m f h.found k.charges))
     (first_chunk (released at size (Some (m, amount))) l)) t.is
     ∙ ap (first_chunk (released at size further)) (sym t.is) in (
-      entries ++ e ∷ [],
-      subst (IsReleased at size v x (entries ++ e ∷ [])) (sym (n ∙ ap (λ (l : List Fixed). next_given l m amount found) (sym same)))
-          (record {
-            descent = subtracts e r.descent refl refl;
-            view = s.1 ∙ (λ j. stepping (falling (r.view j).start.tree) (r.view j) e)
-                ∙ (λ j. record {
-                  start = v.start;
-                  own = record {
-                    own_steps = one_more v.own.own_steps entries e j;
-                    observed = v.own.observed;
-                    bytes = v.own.bytes;
-                    turns = v.own.turns;
-                    chunks = chunks j;
-                  };
-                  offer = v.offer;
-                });
-          }),
+      entries ++ a ∷ b ∷ c ∷ [],
+      subst (IsReleased at size v x (entries ++ a ∷ b ∷ c ∷ [])) (sym h.next_is) (record {
+        descent = subtracts f a b c r.descent (record {
+          held = refl;
+          subtracted = refl;
+          reservation_is = record { word_is = refl; kind = refl; returned = refl };
+          parent_is = record { word_is = refl; kind = refl; returned = refl };
+        });
+        known = known;
+        view = h.view ∙ (λ j. above_read m f h.second_name h.third_name (stepping (falling m f) (knowing m f (r.view j)) a))
+            ∙ (λ j. record v {
+              known = known;
+              own = record (v.own) { own_steps = three_more v.own.own_steps entries a b c j; chunks = chunks j };
+            });
+      }),
     )
 
 -- the chunk in hand of a release that goes on has this amount to subtract
@@ -97,26 +132,3 @@ release_goes_down at size m amount v w entries t r = record {
   rest = rest_of (to_front (held_word at) t.chunk.charges);
   down = refl;
 }
-
--- the number that there is, or 0
-abbrev or_zero : Option (ℕ × ℕ) → ℕ
-or_zero None = 0
-or_zero (Some p) = p.0
-
--- the level that is released next is one of the tree, above the last
-pub given_below : (tree : List Fixed) (m amount found : ℕ) → HasParentsBefore tree → (p : ℕ × ℕ) →
-    next_given tree m amount found ≡ Some p → p.0 < m
-given_below tree m amount found parents p e = go (parent_of m (node tree m)) _ refl e
-  where
-    go : (o : Option ℕ) (n : ℕ) → parent_of m (node tree m) ≡ o → passed o n ≡ Some p → p.0 < m
-    go (Some q) (suc n) is r = let l = parents m q is in let z : q ≡ p.0 = ap or_zero r in omega arith
-    go (Some q) zero is r = absurd cc
-    go None n is r = absurd cc
-
-pub given_in_tree : (tree : List Fixed) (m amount found : ℕ) → HasParentsBefore tree → m < length tree →
-    IsInTree tree (next_given tree m amount found)
-given_in_tree tree m amount found parents there = go (next_given tree m amount found) refl
-  where
-    go : (o : Option (ℕ × ℕ)) → next_given tree m amount found ≡ o → IsInTree tree o
-    go None e = tt
-    go (Some p) e = let l = given_below tree m amount found parents p e in omega arith

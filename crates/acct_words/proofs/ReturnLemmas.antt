@@ -5,10 +5,9 @@ use Rattle.mem_num.specs.declared.full.Full.{Full}
 use Rattle.acct_core.specs.declared.level_step.LevelStep.{LevelStep}
 use Rattle.acct_words.specs.Entries.StepKind.{LoadWord, DrawChunkNumber, BeginCharge, AddHeld, SubtractHeld, ForgetChunk}
 use Rattle.acct_words.specs.Entries.{StepKind, Entry, size_begun, size_forgotten, begun, forgotten}
-use Rattle.acct_words.specs.declared.fixed.Fixed.{Fixed}
 use Rattle.acct_words.specs.Views.{Start}
-use Rattle.acct_words.specs.Climbs.{Shows, amount_of}
-use Rattle.acct_words.specs.Climbs.Shows.{none, more}
+use Rattle.acct_words.specs.Climbs.{Climbs, amount_of}
+use Rattle.acct_words.specs.Climbs.Climbs.{begins, adds}
 use Rattle.acct_words.specs.Falls.{Descends}
 use Rattle.acct_words.specs.Falls.Descends.{starts, subtracts}
 use Rattle.acct_words.specs.Tokens.{CallerToken}
@@ -25,30 +24,49 @@ adds_forget (SubtractHeld taken) amount e = absurd cc
 adds_forget (ForgetChunk size) amount e = absurd cc
 
 -- nor does a way up
-pub climb_forgets : {entries : List Entry} {steps : List LevelStep} → Shows entries steps → sum_by forgotten entries ≡ 0
-climb_forgets none = refl
-climb_forgets (more {entries = entries} {steps = steps} {step = step} {addition = addition} {limit = limit} shows level) =
-    let a = climb_forgets shows in
-    let b = sum_by-append forgotten entries (addition ∷ limit ∷ []) in
-    let c = sum_by-cons forgotten addition (limit ∷ []) in
-    let d = sum_by-cons forgotten limit [] in
-    let e = adds_forget addition.kind step.amount level.added in
-    let f = ap size_forgotten level.loads in
+pub climb_forgets : {at size : ℕ} {entries : List Entry} {steps : List LevelStep} {next : Option (ℕ × ℕ)} →
+    Climbs at size entries steps next → sum_by forgotten entries ≡ 0
+climb_forgets begins = refl
+climb_forgets (adds {entries = entries} {amount = amount} fixed addition limit reservation parent climb is) =
+    let a = climb_forgets climb in
+    let b = sum_by-append forgotten entries (addition ∷ limit ∷ reservation ∷ parent ∷ []) in
+    let c = sum_by-cons forgotten addition (limit ∷ reservation ∷ parent ∷ []) in
+    let d = three_loads forgotten limit reservation parent in
+    let e = adds_forget addition.kind amount is.added in
+    let f = ap size_forgotten is.limit_is.kind in
+    let g = ap size_forgotten is.reservation_is.kind in
+    let h = ap size_forgotten is.parent_is.kind in
     omega arith
+  where
+    three_loads : (weight : Entry → ℕ) (x y z : Entry) → sum_by weight (x ∷ y ∷ z ∷ []) ≡ weight x + (weight y + weight z)
+    three_loads weight x y z =
+        let a = sum_by-cons weight x (y ∷ z ∷ []) in
+        let b = sum_by-cons weight y (z ∷ []) in
+        let c = sum_by-cons weight z [] in omega arith
 
 -- a release begins nothing and forgets nothing
-pub release_counts : {tree : List Fixed} {at size : ℕ} {entries : List Entry} {next : Option (ℕ × ℕ)} →
-    Descends tree at size entries next → (sum_by begun entries ≡ 0) × (sum_by forgotten entries ≡ 0)
+pub release_counts : {at size : ℕ} {entries : List Entry} {next : Option (ℕ × ℕ)} →
+    Descends at size entries next → (sum_by begun entries ≡ 0) × (sum_by forgotten entries ≡ 0)
 release_counts starts = (refl, refl)
-release_counts (subtracts {entries = entries} {level = level} {amount = amount} entry before word kind) =
+release_counts (subtracts {entries = entries} fixed subtraction reservation parent before is) =
     let a = release_counts before in
-    let b = sum_by-append begun entries (entry ∷ []) in
-    let c = sum_by-cons begun entry [] in
-    let d = ap size_begun kind in
-    let e = sum_by-append forgotten entries (entry ∷ []) in
-    let f = sum_by-cons forgotten entry [] in
-    let g = ap size_forgotten kind in
+    let b = sum_by-append begun entries (subtraction ∷ reservation ∷ parent ∷ []) in
+    let c = three_steps begun subtraction reservation parent in
+    let d = ap size_begun is.subtracted in
+    let d₁ = ap size_begun is.reservation_is.kind in
+    let d₂ = ap size_begun is.parent_is.kind in
+    let e = sum_by-append forgotten entries (subtraction ∷ reservation ∷ parent ∷ []) in
+    let f = three_steps forgotten subtraction reservation parent in
+    let g = ap size_forgotten is.subtracted in
+    let g₁ = ap size_forgotten is.reservation_is.kind in
+    let g₂ = ap size_forgotten is.parent_is.kind in
     (omega arith, omega arith)
+  where
+    three_steps : (weight : Entry → ℕ) (x y z : Entry) → sum_by weight (x ∷ y ∷ z ∷ []) ≡ weight x + (weight y + weight z)
+    three_steps weight x y z =
+        let a = sum_by-cons weight x (y ∷ z ∷ []) in
+        let b = sum_by-cons weight y (z ∷ []) in
+        let c = sum_by-cons weight z [] in omega arith
 
 -- one entry, then those of a way up, then others
 three_parts : (weight : Entry → ℕ) (old : List Entry) (draw : Entry) (up rest : List Entry) →
@@ -61,7 +79,7 @@ three_parts weight old draw up rest =
 
 -- a token that was refused has given back what it began
 pub refused_gives_back : (start : Start) (at size : ℕ) (old new : CallerToken) (full : Full) →
-    HasBeenRefused start.tree at size old.history new.history full → new.budget.bytes + size ≡ old.budget.bytes →
+    HasBeenRefused at size old.history new.history full → new.budget.bytes + size ≡ old.budget.bytes →
     HasGivenAllBack start old → HasGivenAllBack start new
 refused_gives_back start at size old new full r spent g =
     let b₁ = ap (sum_by begun) r.made.own in
@@ -76,9 +94,9 @@ refused_gives_back start at size old new full r spent g =
     let f₄ = sum_by-cons forgotten r.pause [] in
     let f₅ = ap size_forgotten r.drew.kind in
     let f₆ = ap size_forgotten r.forgot.kind_is in
-    let up = climb_forgets r.shows in
+    let up = climb_forgets r.climb in
     let down = release_counts r.descent in
-    let begins = r.begins in
+    let whole = r.begins in
     let alone = g.alone in
     let back = g.given_back in
     record { alone = omega arith; given_back = omega arith }
@@ -110,9 +128,9 @@ charge_gives_back start at size old new h g =
     let f₈ = sum_by-append forgotten h.chunk.history.own r.down in
     let f₉ = counts_of forgotten h.between.history.own h.bare.history.own t.pause new.history.own t.own in
     let f₀ = ap size_forgotten t.paused.kind_is in
-    let up = climb_forgets c.shows in
+    let up = climb_forgets c.climb in
     let down = release_counts r.descent in
-    let begins = c.begins in
+    let whole = c.begins in
     let alone = g.alone in
     let back = g.given_back in
     let spent = h.spent in

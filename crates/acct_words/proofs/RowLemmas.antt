@@ -1,10 +1,10 @@
 -- What a write to one word makes of the rows.
-use Rattle.std.proofs.Common.{zero, suc, ◌≡◌, ℕ, ◌+◌, ◌<◌, List, [], ◌∷◌, length, set, slice_index, refl, ap, arith, get_or-set_same}
+use Rattle.std.proofs.Common.{zero, suc, ◌≡◌, ℕ, ◌+◌, ◌<◌, ◌≢◌, List, [], ◌∷◌, length, set, slice_index, refl, sym, ap, arith, get_or-set_same}
 use Rattle.std.proofs.Common.{get_or-set_other}
 use Rattle.acct_core.specs.Rows.{row}
 use Rattle.acct_words.specs.declared.fixed.Fixed.{Fixed}
-use Rattle.acct_words.specs.Places.{held_word, limit_word}
-use Rattle.acct_words.specs.Rows.{node, row_of, rows_of}
+use Rattle.acct_words.specs.Places.{held_word, limit_word, reservation_word, parent_word}
+use Rattle.acct_words.specs.Rows.{node, row_of, rows_of, fixed_in}
 
 -- there are as many rows as allocators
 pub rows_of-length : (tree : List Fixed) (n : ℕ) (words : List ℕ) → length (rows_of tree n words) ≡ length tree
@@ -48,3 +48,21 @@ rows_of-set (f ∷ tree) n (suc m) k x words e h w =
           (λ q. omega arith),
       rows_of-set tree (n + 1) m k x words (omega arith) (omega arith) w,
     ) refl
+
+-- what is fixed of an allocator stays where another word is written
+pub fixed_in-other : (n w x : ℕ) (words : List ℕ) → w ≢ limit_word n → w ≢ reservation_word n → w ≢ parent_word n →
+    fixed_in n (set words w x) ≡ fixed_in n words
+fixed_in-other n w x words l r p = rw (
+  get_or-set_other words w (parent_word n) x 0 (λ q. p (sym q)),
+  get_or-set_other words w (reservation_word n) x 0 (λ q. r (sym q)),
+  get_or-set_other words w (limit_word n) x 0 (λ q. l (sym q)),
+) refl
+
+-- as where a held word is
+pub fixed_in-held : (n m x : ℕ) (words : List ℕ) → fixed_in n (set words (held_word m) x) ≡ fixed_in n words
+fixed_in-held n m x words = fixed_in-other n (held_word m) x words (λ q. omega arith) (λ q. omega arith) (λ q. omega arith)
+
+-- the limits that the words say are those of the tree
+pub limits_of : (tree : List Fixed) (words : List ℕ) → ((n : ℕ) → n < length tree → fixed_in n words ≡ node tree n) →
+    (n : ℕ) → n < length tree → slice_index words (limit_word n) ≡ (node tree n).limit
+limits_of tree words fixed n there = ap (λ (f : Fixed). f.limit) (fixed n there)

@@ -12,7 +12,7 @@ use Rattle.acct_words.specs.Entries.{InHistory}
 use Rattle.acct_words.specs.Bodies.{plus, left, right, both, spent, total, IsWeight, made, bytes_left, turns_left, charging, chunk_sizes}
 use Rattle.acct_words.specs.Bodies.{numbered}
 use Rattle.acct_words.specs.Rows.{charges_of, claims_of, rows_of}
-use Rattle.acct_words.specs.Rule.{IsGoodView, IsSoundTable}
+use Rattle.acct_words.specs.Rule.{IsGoodView, IsKnown, IsSoundTable}
 use Rattle.acct_words.proofs.ViewLemmas.{total_cut, total_join, made_weighs, bytes_weigh, turns_weigh, charges_weigh, sizes_weigh}
 use Rattle.acct_words.proofs.ViewLemmas.{numbers_weigh}
 use Rattle.acct_core.proofs.SameClaimsLemmas.{same_fixed, same_from, All-left, All-right}
@@ -24,10 +24,11 @@ regrouped : (start : Start) (s t : State Said View) (k : IsSoundTable start s) �
     ((f : Body → ℕ) → IsWeight f → total f t.views ≡ total f s.views)
     → ((P : Claim → Type 0) → ((j : ℕ) (v : View) → get_elem? s.views j ≡ some v → All P (its_charges v)) → (j : ℕ) (v : View) →
     get_elem? t.views j ≡ some v → All P (its_charges v))
-    → ((id : ℕ) (v : View) → get_elem? t.views id ≡ some v → IsGoodView k.history v) → IsSoundTable start t
-regrouped start s t k w same all good = record {
+    → ((id : ℕ) (v : View) → get_elem? t.views id ≡ some v → IsGoodView k.history v)
+    → ((id : ℕ) (v : View) → get_elem? t.views id ≡ some v → All (IsKnown start) v.known) → IsSoundTable start t
+regrouped start s t k w same all good known = record {
   history = k.history;
-  layout = record { small = k.layout.small; wide = ap length w ∙ k.layout.wide; limits = λ n h. rw w (k.layout.limits n h) };
+  layout = record { small = k.layout.small; wide = ap length w ∙ k.layout.wide; fixed = λ n h. rw w (k.layout.fixed n h) };
   accounts = rw w (same_fixed (rows_of start.tree 0 s.words) (claims_of s.views) (claims_of t.views)
       (same_from (claims_of s.views) (claims_of t.views)
       (λ f. (let a = claims_of-sum f s.views in let b = claims_of-sum f t.views in let c = same (charging f) (charges_weigh f) in
@@ -35,6 +36,7 @@ regrouped start s t k w same all good = record {
       (λ P h. all_from P t.views (all P (all_at P s.views h)))) k.accounts);
   steps = record { placed = λ f. same (made f) (made_weighs f) ∙ k.steps.placed f; legal = k.steps.legal };
   tokens = good;
+  known = known;
   budget = record {
     bytes = (let e = same bytes_left bytes_weigh in let p = k.budget.bytes in omega arith);
     turns = (let e = same turns_left turns_weigh in let p = k.budget.turns in omega arith);
@@ -78,6 +80,11 @@ cuts start id v s k at = regrouped start s (record { words = s.words; homes = s.
       none,
     ))
     (at_snoc (set s.views id (left v)) (right v) x j g)))
+    (λ j x g. ⊎_elim
+    (λ g'. ⊎_elim (λ q. subst (λ (y : View). All (IsKnown start) y.known) q.1 (k.known id v at)) (λ q. k.known j x q.1)
+    (at_set s.views id j (left v) x g'))
+    (λ e. subst (λ (y : View). All (IsKnown start) y.known) e (All-nil (IsKnown start)))
+    (at_snoc (set s.views id (left v)) (right v) x j g))
 
 -- a token takes in another
 pub joins : (start : Start) (id other : ℕ) (v w : View) → Joins (IsSoundTable {S = Said} start) id v other w (both v w) spent
@@ -100,6 +107,11 @@ joins start id other v w s k at ne at' =
       mine.1,
     ))
     (λ r. k.tokens j x r.1)
+    (at_set s.views id j (both v w) x q.1))
+    (at_set (set s.views id (both v w)) other j spent x g))
+    (λ j x g. ⊎_elim
+    (λ q. subst (λ (y : View). All (IsKnown start) y.known) q.1 (All-nil (IsKnown start)))
+    (λ q. ⊎_elim (λ r. subst (λ (y : View). All (IsKnown start) y.known) r.1 (k.known id v at)) (λ r. k.known j x r.1)
     (at_set s.views id j (both v w) x q.1))
     (at_set (set s.views id (both v w)) other j spent x g))
   where

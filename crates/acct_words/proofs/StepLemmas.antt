@@ -15,28 +15,29 @@ use Rattle.acct_core.specs.Effects.{passed, goes_on, step_at}
 use Rattle.acct_core.specs.Phases.{any_past, size_of}
 use Rattle.mem_model.specs.Reservation.{beyond_reservation}
 use Rattle.acct_words.specs.Entries.StepKind.{BeginCharge, AddHeld}
-use Rattle.acct_words.specs.Entries.{Entry, InHistory}
+use Rattle.acct_words.specs.Entries.{StepKind, Entry, InHistory}
 use Rattle.acct_words.specs.declared.fixed.Fixed.{Fixed}
 use Rattle.acct_words.specs.declared.rule.Said.{Said}
-use Rattle.acct_words.specs.Views.{Chunk, Body, View}
+use Rattle.acct_words.specs.Views.{Start, Chunk, Body, View}
 use Rattle.acct_words.specs.Places.{held_word}
-use Rattle.acct_words.specs.Rows.{node, charges_of, claims_of}
+use Rattle.acct_words.specs.Rows.{node, charges_of, claims_of, ComesAfterParent}
 use Rattle.acct_words.specs.Moves.{found_row, risen, charged_as, first_chunk, first_charge, beginning, rising}
 use Rattle.acct_words.specs.Rule.{IsGoodChunk, IsGoodBody, IsSoundTable}
-use Rattle.acct_words.specs.Plays.{entry, stepping, Begins, Rises}
+use Rattle.acct_words.specs.Plays.{entry, stepping, knowing, StepsAt, Begins, Rises}
 use Rattle.acct_core.specs.SameClaims.{SameClaims}
 use Rattle.acct_core.proofs.SameClaimsLemmas.{same_then, same_before, same_path}
 use Rattle.acct_words.proofs.ClaimLemmas.{its_charges, others, taken_out}
-use Rattle.acct_words.proofs.AccountLemmas.{begin_moves, rise_moves, rises_there}
-use Rattle.acct_words.proofs.KeptLemmas.{in_longer, good_longer}
+use Rattle.acct_words.proofs.RowLemmas.{limits_of}
+use Rattle.acct_words.proofs.AccountLemmas.{begin_moves, rise_moves, rises_there, row_after}
+use Rattle.acct_words.proofs.KeptLemmas.{in_longer, good_longer, known_more}
 use Rattle.acct_words.proofs.BoundLemmas.{IsAddition, addition_small, addition_kept}
 
 -- a claim that goes up keeps its size
-pub size_risen : (tree : List Fixed) (found n size m amount : ℕ) (forced : Bool) (steps : List LevelStep) →
-    size_of (risen tree found (claim_at n (Up size m amount forced steps))).phase ≡ size
-size_risen tree found n size m amount forced steps =
-    go (passed (found_row tree m found).shape.parent (beyond_reservation (node tree m).reservation found (found + amount)))
-    (steps ++ step_at m (found_row tree m found) amount ∷ [])
+pub size_risen : (f : Fixed) (found n size m amount : ℕ) (forced : Bool) (steps : List LevelStep) →
+    size_of (risen m f found (claim_at n (Up size m amount forced steps))).phase ≡ size
+size_risen f found n size m amount forced steps =
+    go (passed (found_row m f found).shape.parent (beyond_reservation f.reservation found (found + amount)))
+    (steps ++ step_at m (found_row m f found) amount ∷ [])
   where
     go : (o : Option (ℕ × ℕ)) (all : List LevelStep) → size_of (goes_on o size forced all) ≡ size
     go (Some pair) all = refl
@@ -63,6 +64,20 @@ good_chunk number size c le = record {
       (All-nil (λ (x : Claim). size_of x.phase ≤ size));
 }
 
+-- a level that is told by its held word
+pub at_level : (act : StepKind) (make : ℕ → Fixed → Body → Entry → Body) (m found : ℕ) (v w : View) → StepsAt act make m found v w →
+    (level : ℕ) → held_word m ≡ held_word level → StepsAt act make level found v w
+at_level act make m found v w made level same = subst (λ (l : ℕ). StepsAt act make l found v w) level_is made
+  where
+    level_is : m ≡ level
+    level_is = omega arith
+
+-- an allocator of the table comes after its parent
+pub comes_after : (start : Start) (s : State Said View) (k : IsSoundTable start s) (m : ℕ) → m < length start.tree →
+    ComesAfterParent m (node start.tree m)
+comes_after start s k m there =
+    row_after start.tree s.words (limits_of start.tree s.words k.layout.fixed) m there (claims_of s.views) k.accounts
+
 -- a charge begins
 module _ (slots id : ℕ) (me : Me Said View) (m size : ℕ) (k₀ : Chunk) (chunks : List Chunk) (is : me.0.own.chunks ≡ k₀ ∷ chunks)
     (empty : k₀.charges ≡ [])
@@ -74,11 +89,14 @@ module _ (slots id : ℕ) (me : Me Said View) (m size : ℕ) (k₀ : Chunk) (chu
   abbrev e : Entry
   e = entry (length k.history) (held_word m) (BeginCharge size) found
 
+  abbrev f : Fixed
+  f = node me.0.start.tree m
+
   abbrev w : View
-  w = stepping (beginning me.0.start.tree m size) me.0 e
+  w = stepping (beginning size m f) (knowing m f me.0) e
 
   abbrev c : Claim
-  c = risen me.0.start.tree found (claim_at m (Up size m size false []))
+  c = risen m f found (claim_at m (Up size m size false []))
 
   abbrev k₁ : Chunk
   k₁ = record { number = k₀.number; size = size; charges = c ∷ [] }
@@ -88,7 +106,8 @@ module _ (slots id : ℕ) (me : Me Said View) (m size : ℕ) (k₀ : Chunk) (chu
 
   begin_addition : IsAddition me.0.start s s.homes id me.0 w k at m size (BeginCharge size) there (λ n. refl) refl refl
   begin_addition = record {
-    lawful = begin_moves me.0.start.tree s.words s.views id me.0 w at k.layout.limits k.layout.wide m size there false
+    lawful = begin_moves me.0.start.tree s.words s.views id me.0 w at (limits_of me.0.start.tree s.words k.layout.fixed)
+        k.layout.wide m size there false
         (charges_of chunks ++ charges_of me.0.offer.chunks) some_size small
         (same_path (its_charges me.0) (charges_of chunks ++ charges_of me.0.offer.chunks) (first_charges me.0 k₀ chunks is
         ∙ ap (λ (l : List Claim). (l ++ charges_of chunks) ++ charges_of me.0.offer.chunks) empty))
@@ -106,11 +125,12 @@ module _ (slots id : ℕ) (me : Me Said View) (m size : ℕ) (k₀ : Chunk) (chu
         own_steps = steps_more k.history e me.0.own old.0 refl;
         observed = (good_longer k.history e me.0.own old.0).observed;
         chunks = subst (All IsGoodChunk) (sym chunks_after) (All-cons IsGoodChunk k₁ chunks (good_chunk k₀.number size c (let z =
-            size_risen me.0.start.tree found m size m size false [] in omega arith))
+            size_risen f found m size m size false [] in omega arith))
             (All-tail IsGoodChunk k₀ chunks (subst (All IsGoodChunk) is old.0.chunks)));
       },
       good_longer k.history e me.0.offer old.1,
     ));
+    known = known_more me.0.start m me.0.known there (k.known id me.0 at);
   }
 
 pub begins_allowed : (slots id : ℕ) (me : Me Said View) (m size : ℕ) (k₀ : Chunk) (chunks : List Chunk) → me.0.own.chunks ≡ k₀ ∷ chunks →
@@ -125,9 +145,11 @@ begins_allowed slots id me m size k₀ chunks is empty some_size small paid ther
       tt,
       addition_kept me.0.start s s.homes id me.0 v k at m size (BeginCharge size) there (λ n. refl) refl refl b,
       (
-        m,
-        refl,
-        (length k.history, refl),
+        at_level (BeginCharge size) (beginning size) m (slice_index s.words (held_word m)) me.0 v (record {
+          fixed = node me.0.start.tree m;
+          made = (length k.history, refl);
+          after_parent = comes_after me.0.start s k m there;
+        }),
         refl,
         addition_small me.0.start s s.homes id me.0 v k at m size (BeginCharge size) there
             (λ n. refl) refl refl b,
@@ -145,14 +167,17 @@ module _ (slots id : ℕ) (me : Me Said View) (n size m amount : ℕ) (forced : 
   abbrev step_made : Entry
   step_made = entry (length k.history) (held_word m) (AddHeld amount) level
 
+  abbrev its : Fixed
+  its = node me.0.start.tree m
+
   abbrev risen_view : View
-  risen_view = stepping (rising me.0.start.tree) me.0 step_made
+  risen_view = stepping (rising m its) (knowing m its me.0) step_made
 
   abbrev before : Claim
   before = claim_at n (Up size m amount forced steps)
 
   abbrev after : Claim
-  after = risen me.0.start.tree level before
+  after = risen m its level before
 
   abbrev k₂ : Chunk
   k₂ = charged_as k₀ (after ∷ rest)
@@ -161,8 +186,8 @@ module _ (slots id : ℕ) (me : Me Said View) (n size m amount : ℕ) (forced : 
   all_rest = (rest ++ charges_of chunks) ++ charges_of me.0.offer.chunks
 
   chunks_risen : risen_view.own.chunks ≡ k₂ ∷ chunks
-  chunks_risen = ap (first_chunk (λ (k : Chunk). charged_as k (first_charge (risen me.0.start.tree level) k.charges))) is
-      ∙ ap (λ (l : List Claim). charged_as k₀ (first_charge (risen me.0.start.tree level) l) ∷ chunks) up
+  chunks_risen = ap (first_chunk (λ (k : Chunk). charged_as k (first_charge (risen m its level) k.charges))) is
+      ∙ ap (λ (l : List Claim). charged_as k₀ (first_charge (risen m its level) l) ∷ chunks) up
 
   same_before_it : SameClaims (its_charges me.0) (before ∷ all_rest)
   same_before_it = same_path (its_charges me.0) (before ∷ all_rest) (first_charges me.0 k₀ chunks is
@@ -178,14 +203,15 @@ module _ (slots id : ℕ) (me : Me Said View) (n size m amount : ℕ) (forced : 
   good_risen g = let q = subst (All (λ (x : Claim). size_of x.phase ≤ k₀.size)) up g.whole in record {
     few = (let f = ap length up in let h = g.few in omega arith);
     whole = All-cons (λ (x : Claim). size_of x.phase ≤ k₀.size) after rest
-        (let z = size_risen me.0.start.tree level n size m amount forced steps in let y =
+        (let z = size_risen its level n size m amount forced steps in let y =
         All-head (λ (x : Claim). size_of x.phase ≤ k₀.size) before rest q in omega arith)
         (All-tail (λ (x : Claim). size_of x.phase ≤ k₀.size) before rest q);
   }
 
   rise_addition : IsAddition me.0.start s s.homes id me.0 risen_view k at m amount (AddHeld amount) level_there (λ n. refl) refl refl
   rise_addition = record {
-    lawful = rise_moves me.0.start.tree s.words s.views id me.0 risen_view at k.layout.limits k.layout.wide m amount level_there n size
+    lawful = rise_moves me.0.start.tree s.words s.views id me.0 risen_view at
+        (limits_of me.0.start.tree s.words k.layout.fixed) k.layout.wide m amount level_there n size
         forced steps all_rest same_before_it
         (same_path (after ∷ all_rest) (its_charges risen_view) (sym (first_charges risen_view k₂ chunks chunks_risen))) k.accounts;
     made = λ f. (let q = sum_by_push f me.0.own.own_steps step_made in omega arith);
@@ -195,15 +221,16 @@ module _ (slots id : ℕ) (me : Me Said View) (n size m amount : ℕ) (forced : 
         ap (sum_by (λ (k : Chunk). k.size)) is in let f = sum_by-cons (λ (k : Chunk). k.size) k₀ chunks in omega arith);
     numbers = λ n. (let g : Chunk → ℕ = λ k. cond (k.number == n) 1 0 in let a = ap (sum_by g) chunks_risen in let b =
         sum_by-cons g k₂ chunks in let d = ap (sum_by g) is in let f = sum_by-cons g k₀ chunks in omega arith);
-    good = (let old = k.tokens id me.0 at in let its = subst (All IsGoodChunk) is old.0.chunks in (
+    good = (let old = k.tokens id me.0 at in let all = subst (All IsGoodChunk) is old.0.chunks in (
       record {
         own_steps = steps_more k.history step_made me.0.own old.0 refl;
         observed = (good_longer k.history step_made me.0.own old.0).observed;
         chunks = subst (All IsGoodChunk) (sym chunks_risen)
-            (All-cons IsGoodChunk k₂ chunks (good_risen (All-head IsGoodChunk k₀ chunks its)) (All-tail IsGoodChunk k₀ chunks its));
+            (All-cons IsGoodChunk k₂ chunks (good_risen (All-head IsGoodChunk k₀ chunks all)) (All-tail IsGoodChunk k₀ chunks all));
       },
       good_longer k.history step_made me.0.offer old.1,
     ));
+    known = known_more me.0.start m me.0.known level_there (k.known id me.0 at);
   }
 
 pub rises_allowed : (slots id : ℕ) (me : Me Said View) (n size m amount : ℕ) (forced : Bool) (steps : List LevelStep) (k₀ : Chunk)
@@ -219,7 +246,11 @@ rises_allowed slots id me n size m amount forced steps k₀ chunks rest is up s 
       tt,
       addition_kept me.0.start s s.homes id me.0 v k at m amount (AddHeld amount) there (λ n. refl) refl refl b,
       (
-        (length k.history, refl),
+        at_level (AddHeld amount) rising m (slice_index s.words (held_word m)) me.0 v (record {
+          fixed = node me.0.start.tree m;
+          made = (length k.history, refl);
+          after_parent = comes_after me.0.start s k m there;
+        }),
         refl,
         addition_small me.0.start s s.homes id me.0 v k at m amount (AddHeld amount) there
             (λ n. refl) refl refl b,

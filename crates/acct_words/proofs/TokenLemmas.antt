@@ -14,7 +14,6 @@ use Rattle.acct_core.specs.Phases.{Phase, is_past, any_past}
 use Rattle.acct_core.specs.Phases.Phase.{Free, In, Up, Held, Failed, Down, Bounced}
 use Rattle.acct_core.specs.FixedTrees.{CanTurnRound}
 use Rattle.acct_words.specs.declared.budget.Budget.{Budget}
-use Rattle.acct_words.specs.declared.fixed.Fixed.{Fixed}
 use Rattle.acct_words.specs.declared.rule.Said.{Said}
 use Rattle.acct_words.specs.Entries.{Entry, StepKind}
 use Rattle.acct_words.specs.Entries.StepKind.{LoadWord, ForgetChunk}
@@ -27,32 +26,26 @@ use Rattle.acct_words.specs.Calls.{HasEmptyChunk, TurnsBack}
 use Rattle.acct_words.specs.Climbs.{IsForced, refusal_of, full_at}
 use Rattle.acct_words.specs.Falls.{IsReleased, rest_of, released}
 use Rattle.acct_words.specs.Charges.{draw_entry, still_entry, ViewCharges, ViewRefuses, forget_entry}
-use Rattle.acct_words.specs.Tokens.{AccountsTable, History, CallerToken, ChunkToken, history_of, is_charged, without, charges_in}
+use Rattle.acct_words.specs.Tokens.{History, CallerToken, ChunkToken, history_of, is_charged, without, charges_in}
 use Rattle.acct_words.specs.Tokens.{charged_in, IsHeldAs, IsChargeOf, HasOneChunk}
 use Rattle.acct_words.specs.CallHistories.{StaysWithinLimit, HasCharged, HasBeenRefused, HasForced, HasDischarged, TakesIn, HasLoadedHeld}
 
--- what is shown of a view's tree and history is shown of the caller token that has the view, and of the table
-pub of_caller : (P : List Fixed → History → Type 0) (id : TableId) (v : View) (budget : Budget) (token : CallerToken)
-    (table : AccountsTable) →
+-- what is shown of a view's history is shown of the caller token that has the view
+pub of_caller : (P : History → Type 0) (id : TableId) (v : View) (budget : Budget) (token : CallerToken) →
     ◌≡◌ {A = CallerToken} (record { table = record { id = id; start = v.start }; history = history_of v; budget = budget }) token →
-    token.table ≡ table →
-    P v.start.tree (history_of v) → P table.start.tree token.history
-of_caller P id v budget token table is same h = subst (λ (t : AccountsTable). P t.start.tree token.history) same
-    (subst (λ (t : CallerToken). P t.table.start.tree t.history) is h)
+    P (history_of v) → P token.history
+of_caller P id v budget token is h = subst (λ (t : CallerToken). P t.history) is h
 
 -- and of a chunk token
-pub of_chunk : (P : List Fixed → History → Type 0) (id : TableId) (v : View) (number size : ℕ) (token : ChunkToken)
-    (table : AccountsTable) →
+pub of_chunk : (P : History → Type 0) (id : TableId) (v : View) (number size : ℕ) (token : ChunkToken) →
     ◌≡◌ {A = ChunkToken} (record {
       table = record { id = id; start = v.start };
       history = history_of v;
       number = number;
       size = size;
       charged = charged_in v;
-    }) token →
-    token.table ≡ table → P v.start.tree (history_of v) → P table.start.tree token.history
-of_chunk P id v number size token table is same h = subst (λ (t : AccountsTable). P t.start.tree token.history) same
-    (subst (λ (t : ChunkToken). P t.table.start.tree t.history) is h)
+    }) token → P (history_of v) → P token.history
+of_chunk P id v number size token is h = subst (λ (t : ChunkToken). P t.history) is h
 
 -- where no step went past its limit, each is within it
 all_within : (steps : List LevelStep) → any_past steps ≡ false → All StaysWithinLimit steps
@@ -107,7 +100,7 @@ none_is (Some f) false e = refl
 
 -- a charge, as the caller's history shows it
 pub charged_history : (at size : ℕ) (v w : View) (number : ℕ) (new : View) → ViewCharges at size v w number new →
-    HasCharged v.start.tree at size number (history_of v) (history_of w)
+    HasCharged at size number (history_of v) (history_of w)
 charged_history at size v w number new h = record {
   draw = draw_entry h.draw_name number;
   up = h.entries;
@@ -115,7 +108,6 @@ charged_history at size v w number new h = record {
   steps = h.steps;
   drew = record { word = refl; kind = refl; found = refl };
   climb = h.climb;
-  shows = h.shows;
   begins = h.begins;
   within = all_within h.steps h.within;
   paused = record { word = refl; kind_is = refl };
@@ -124,7 +116,7 @@ charged_history at size v w number new h = record {
 
 -- a refusal
 pub refused_history : (at size : ℕ) (v w : View) (full : Full) → ViewRefuses at size v w full →
-    HasBeenRefused v.start.tree at size (history_of v) (history_of w) full
+    HasBeenRefused at size (history_of v) (history_of w) full
 refused_history at size v w full h = record {
   number = h.number;
   draw = draw_entry h.draw_name h.number;
@@ -134,7 +126,6 @@ refused_history at size v w full h = record {
   steps = h.steps;
   drew = record { word = refl; kind = refl; found = refl };
   climb = h.climb;
-  shows = h.shows;
   begins = h.begins;
   refusal = h.refusal;
   descent = h.descent;
@@ -156,12 +147,11 @@ loaded_history at found v w s = record {
 -- a force
 pub forced_history : (at size : ℕ) (v w : View) (full : Option Full) (answer : Bool) (steps : List LevelStep) →
     IsForced at size v w steps None →
-    full ≡ refusal_of at steps → answer ≡ is_none full → HasForced v.start.tree at size (history_of v) (history_of w) answer
+    full ≡ refusal_of at steps → answer ≡ is_none full → HasForced at size (history_of v) (history_of w) answer
 forced_history at size v w full answer steps h f a = record {
   up = h.climbed.entries;
   steps = steps;
   climb = h.climbed.climb;
-  shows = h.climbed.shows;
   begins = h.climbed.begins;
   answer = a ∙ ap (λ (o : Option Full). is_none o) f ∙ refusal_none at steps;
   made = record { own = ap (λ (y : View). y.own.own_steps) h.climbed.view; observed = ap (λ (y : View). y.own.observed) h.climbed.view };
@@ -169,7 +159,7 @@ forced_history at size v w full answer steps h f a = record {
 
 -- a release
 pub discharged_history : (at size : ℕ) (v w : View) (entries : List Entry) → IsReleased at size v w entries None →
-    HasDischarged v.start.tree at size (history_of v) (history_of w)
+    HasDischarged at size (history_of v) (history_of w)
 discharged_history at size v w entries h = record {
   down = entries;
   descent = h.descent;

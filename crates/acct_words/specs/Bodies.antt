@@ -30,6 +30,7 @@ left view = record view { offer = nothing }
 abbrev pub right : View → View
 right view = record {
   start = view.start;
+  known = [];
   own = seeing view.offer (view.offer.observed ++ (view.own.own_steps ++ view.own.observed));
   offer = nothing;
 }
@@ -40,7 +41,7 @@ both view other = record view { own = plus view.own (plus other.own other.offer)
 
 -- what a join leaves of the other
 abbrev pub spent : View
-spent = record { start = record { tree = []; bytes = 0; turns = 0 }; own = nothing; offer = nothing }
+spent = record { start = record { tree = []; bytes = 0; turns = 0 }; known = []; own = nothing; offer = nothing }
 
 -- a weight of both bodies of a view
 abbrev pub of_view : (Body → ℕ) → View → ℕ

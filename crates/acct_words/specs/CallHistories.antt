@@ -4,13 +4,12 @@ use Rattle.mem_num.specs.declared.full.Full.{Full}
 use Rattle.mem_model.specs.WorstCase.{worst_case}
 use Rattle.acct_core.specs.declared.level_step.LevelStep.{LevelStep}
 use Rattle.acct_core.specs.Phases.{any_past}
-use Rattle.acct_words.specs.declared.fixed.Fixed.{Fixed}
 use Rattle.acct_words.specs.Entries.{StepKind, Entry, InHistory, begun}
 use Rattle.acct_words.specs.Entries.StepKind.{LoadWord, DrawChunkNumber, ForgetChunk}
 use Rattle.acct_words.specs.Places.{still_word, number_word, held_word}
 use Rattle.acct_words.specs.Views.{Start}
 use Rattle.acct_words.specs.Rule.{IsHistory, reservations}
-use Rattle.acct_words.specs.Climbs.{Climbs, Shows, refusal_of}
+use Rattle.acct_words.specs.Climbs.{Climbs, refusal_of}
 use Rattle.acct_words.specs.Falls.{Descends}
 use Rattle.acct_words.specs.Tokens.{History}
 
@@ -36,14 +35,13 @@ StaysWithinLimit step = step.old + step.amount ≤ step.limit
 
 -- A charge of this size at an allocator succeeded. The token drew the number and went up the levels, and each level that it touched was
 -- within its limit
-pub record HasCharged (tree : List Fixed) (at size number : ℕ) (old new : History) : Type 0 where
+pub record HasCharged (at size number : ℕ) (old new : History) : Type 0 where
   pub draw : Entry
   pub up : List Entry
   pub pause : Entry
   pub steps : List LevelStep
   pub drew : IsDraw number draw
-  pub climb : Climbs tree at size steps None
-  pub shows : Shows up steps
+  pub climb : Climbs at size up steps None
   pub begins : sum_by begun up ≡ size
   pub within : All StaysWithinLimit steps
   pub paused : IsPause LoadWord pause
@@ -51,7 +49,7 @@ pub record HasCharged (tree : List Fixed) (at size number : ℕ) (old new : Hist
 
 -- A charge was refused. The token drew a number, went up all levels, took that back by one release, and forgot the chunk; the refusal has
 -- what its own step found at the lowest level that went past its limit
-pub record HasBeenRefused (tree : List Fixed) (at size : ℕ) (old new : History) (full : Full) : Type 0 where
+pub record HasBeenRefused (at size : ℕ) (old new : History) (full : Full) : Type 0 where
   pub number : ℕ
   pub draw : Entry
   pub up : List Entry
@@ -59,11 +57,10 @@ pub record HasBeenRefused (tree : List Fixed) (at size : ℕ) (old new : History
   pub pause : Entry
   pub steps : List LevelStep
   pub drew : IsDraw number draw
-  pub climb : Climbs tree at size steps None
-  pub shows : Shows up steps
+  pub climb : Climbs at size up steps None
   pub begins : sum_by begun up ≡ size
   pub refusal : refusal_of at steps ≡ Some full
-  pub descent : Descends tree at size down None
+  pub descent : Descends at size down None
   pub forgot : IsPause (ForgetChunk size) pause
   pub made : Makes (draw ∷ (up ++ (down ++ pause ∷ []))) old new
 
@@ -77,19 +74,18 @@ pub record IsWithinWorstCase (start : Start) (history : History) (bytes : ℕ) :
   pub bound : bytes ≤ worst_case (map begun steps) (reservations start.tree)
 
 -- A size was forced onto an allocator: the token went up the levels and took nothing back; and this says whether all stayed within limits
-pub record HasForced (tree : List Fixed) (at size : ℕ) (old new : History) (within : Bool) : Type 0 where
+pub record HasForced (at size : ℕ) (old new : History) (within : Bool) : Type 0 where
   pub up : List Entry
   pub steps : List LevelStep
-  pub climb : Climbs tree at size steps None
-  pub shows : Shows up steps
+  pub climb : Climbs at size up steps None
   pub begins : sum_by begun up ≡ 0
   pub answer : within ≡ not (any_past steps)
   pub made : Makes up old new
 
 -- a charge was released: the token subtracted it level by level
-pub record HasDischarged (tree : List Fixed) (at size : ℕ) (old new : History) : Type 0 where
+pub record HasDischarged (at size : ℕ) (old new : History) : Type 0 where
   pub down : List Entry
-  pub descent : Descends tree at size down None
+  pub descent : Descends at size down None
   pub made : Makes down old new
 
 -- the token loaded what an allocator holds, and found this

@@ -8,25 +8,22 @@ use Rattle.acct_core.specs.declared.level_step.LevelStep.{LevelStep}
 use Rattle.acct_core.specs.Phases.Phase.{Up, Down}
 use Rattle.acct_core.specs.Phases.{Phase}
 use Rattle.acct_core.specs.FixedTrees.{CanTurnRound}
-use Rattle.acct_words.specs.Entries.StepKind.{LoadWord}
 use Rattle.acct_words.specs.declared.rule.Said.{Said}
 use Rattle.acct_words.specs.declared.rule.AccountsRule.{AccountsRule}
 use Rattle.acct_words.specs.declared.fixed.Opening.{Opening}
 use Rattle.acct_words.specs.Views.{Chunk, View}
 use Rattle.acct_words.specs.Places.{still_word, held_word, word_count}
 use Rattle.acct_words.specs.Bodies.{left, right}
-use Rattle.acct_words.specs.Moves.{parting, parted, to_front}
-use Rattle.acct_words.specs.Plays.{entry}
-use Rattle.acct_words.specs.Rows.{HasParentsBefore}
+use Rattle.acct_words.specs.Moves.{to_front}
+use Rattle.acct_words.specs.Plays.{parting_view}
 use Rattle.acct_words.specs.Rule.{start_of}
 
--- the token is of this table, and knows its tree
+-- the token is of this table
 pub record IsOf (words : Shared Said View Opening AccountsRule) (token : Seat Said View) : Type 0 where
   pub table : token.table_id ≡ words.table_id
   pub start : token.me.0.start ≡ start_of words.key
   pub wide : words.table_id.words ≡ word_count (length words.key.nodes.items)
   pub few : length words.key.nodes.items ≤ MOST_ALLOCATORS
-  pub parents : HasParentsBefore words.key.nodes.items
 
 -- it has a chunk in hand
 pub record HasChunk (v : View) : Type 0 where
@@ -65,8 +62,8 @@ pub record GoesUp (level amount : ℕ) (v : View) : Type 0 where
 pub record HasParted (v w new : View) : Type 0 where
   pub name : ℕ
   pub found : ℕ
-  pub kept : w ≡ left (record { start = v.start; own = parting v.own (entry name still_word LoadWord found); offer = parted v.own })
-  pub given : new ≡ right (record { start = v.start; own = parting v.own (entry name still_word LoadWord found); offer = parted v.own })
+  pub kept : w ≡ left (parting_view v name still_word found)
+  pub given : new ≡ right (parting_view v name still_word found)
 
 -- the chunk in hand has a charge of this size at this level, which can turn round
 pub record TurnsBack (level size : ℕ) (v : View) : Type 0 where

@@ -7,11 +7,11 @@ use Rattle.acct_core.specs.Claims.{claim_at}
 use Rattle.acct_core.specs.Phases.{any_past}
 use Rattle.acct_words.specs.Entries.StepKind.{LoadWord, DrawChunkNumber, ForgetChunk}
 use Rattle.acct_words.specs.Entries.{Entry, begun}
-use Rattle.acct_words.specs.Views.{View}
+use Rattle.acct_words.specs.Views.{Known, View}
 use Rattle.acct_words.specs.Places.{still_word, number_word}
 use Rattle.acct_words.specs.Bodies.{nothing}
 use Rattle.acct_words.specs.Plays.{entry}
-use Rattle.acct_words.specs.Climbs.{Climbs, Shows, refusal_of, standing}
+use Rattle.acct_words.specs.Climbs.{Climbs, refusal_of, standing}
 use Rattle.acct_words.specs.Falls.{Descends}
 
 -- the drawing of a number
@@ -30,13 +30,10 @@ forget_entry name size found = entry name still_word (ForgetChunk size) found
 abbrev pub chunk_view : View → ℕ → ℕ → ℕ → List LevelStep → View
 chunk_view new at number size steps = record {
   start = new.start;
-  own = record {
-    own_steps = [];
+  known = [];
+  own = record nothing {
     observed = new.own.own_steps ++ new.own.observed;
-    bytes = 0;
-    turns = 0;
-    chunks =
-        record { number = number; size = size; charges = claim_at at (Held size false steps) ∷ [] } ∷ [];
+    chunks = record { number = number; size = size; charges = claim_at at (Held size false steps) ∷ [] } ∷ [];
   };
   offer = nothing;
 }
@@ -49,12 +46,12 @@ pub record ViewCharges (at size : ℕ) (old new : View) (number : ℕ) (other : 
   pub last_found : ℕ
   pub steps : List LevelStep
   pub entries : List Entry
-  pub climb : Climbs old.start.tree at size steps None
+  pub climb : Climbs at size entries steps None
   pub within : any_past steps ≡ false
-  pub shows : Shows entries steps
   pub begins : sum_by begun entries ≡ size
-  pub token : new ≡ standing old (draw_entry draw_name number ∷ (entries ++ still_entry last_name last_found ∷ [])) (old.own.bytes - size)
-      (old.own.turns - 1) old.own.chunks
+  pub known : List Known
+  pub token : new ≡ standing old known (draw_entry draw_name number ∷ (entries ++ still_entry last_name last_found ∷ []))
+      (old.own.bytes - size) (old.own.turns - 1) old.own.chunks
   pub chunk : other ≡ chunk_view new at number size steps
 
 -- A charge was refused. Its token drew a number, made the steps up all levels, took them back by one release, and forgot the chunk; the
@@ -67,10 +64,11 @@ pub record ViewRefuses (at size : ℕ) (old new : View) (full : Full) : Type 0 w
   pub steps : List LevelStep
   pub entries : List Entry
   pub taken_back : List Entry
-  pub climb : Climbs old.start.tree at size steps None
+  pub climb : Climbs at size entries steps None
   pub refusal : refusal_of at steps ≡ Some full
-  pub shows : Shows entries steps
   pub begins : sum_by begun entries ≡ size
-  pub descent : Descends old.start.tree at size taken_back None
-  pub token : new ≡ standing old (draw_entry draw_name number ∷ (entries ++ (taken_back ++ forget_entry last_name size last_found ∷ [])))
+  pub descent : Descends at size taken_back None
+  pub known : List Known
+  pub token : new ≡ standing old known
+      (draw_entry draw_name number ∷ (entries ++ (taken_back ++ forget_entry last_name size last_found ∷ [])))
       (old.own.bytes - size) (old.own.turns - 1) old.own.chunks

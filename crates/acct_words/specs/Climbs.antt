@@ -1,7 +1,6 @@
 -- A request's way up the levels, as its token's own steps show it.
-use Rattle.std.specs.Prelude.{◌≡◌, ℕ, suc, ◌+◌, ◌-◌, ◌<◌, ◌==◌, Bool, true, false, if◌then◌else◌, List, [], ◌∷◌, ◌++◌, length, sum_by}
+use Rattle.std.specs.Prelude.{◌≡◌, ℕ, suc, ◌+◌, ◌-◌, ◌<◌, ◌==◌, Bool, true, false, if◌then◌else◌, List, [], ◌∷◌, ◌++◌, sum_by}
 use Rattle.std.specs.Prelude.{Option, Some, None}
-use Rattle.std.specs.Prelude.{Some, None}
 use Rattle.mem_num.specs.declared.full.Full.{Full}
 use Rattle.mem_model.specs.Reservation.{beyond_reservation}
 use Rattle.acct_core.specs.declared.level_step.LevelStep.{LevelStep}
@@ -11,27 +10,21 @@ use Rattle.acct_core.specs.Phases.{is_past}
 use Rattle.acct_words.specs.Entries.{StepKind, Entry, begun}
 use Rattle.acct_words.specs.Entries.StepKind.{LoadWord, DrawChunkNumber, BeginCharge, AddHeld, SubtractHeld, ForgetChunk}
 use Rattle.acct_words.specs.declared.fixed.Fixed.{Fixed}
-use Rattle.acct_words.specs.Views.{Chunk, View}
-use Rattle.acct_words.specs.Places.{held_word, limit_word}
-use Rattle.acct_words.specs.Rows.{node, parent_of}
-use Rattle.acct_words.specs.Moves.{found_row, charged_as, beginning, forcing, rising, reading}
-use Rattle.acct_words.specs.Plays.{entry, stepping}
+use Rattle.acct_words.specs.declared.level.Above.{Above}
+use Rattle.acct_words.specs.Views.{Chunk, Known, Body, View}
+use Rattle.acct_words.specs.Places.{held_word, limit_word, reservation_word, parent_word}
+use Rattle.acct_words.specs.Rows.{parent_of, ComesAfterParent}
+use Rattle.acct_words.specs.Moves.{found_row, charged_as, reading}
+use Rattle.acct_words.specs.Plays.{entry, stepping, knowing}
 
--- what the step at a level did, where the held word returned this
-abbrev pub level_step : List Fixed → ℕ → ℕ → ℕ → LevelStep
-level_step tree level amount found = step_at level (found_row tree level found) amount
+-- what the step at a level did, of which this is fixed and where the held word returned this
+abbrev pub level_step : ℕ → Fixed → ℕ → ℕ → LevelStep
+level_step level fixed amount found = step_at level (found_row level fixed found) amount
 
--- which level is asked next and for how much, after an addition at m
-abbrev pub next_asked : List Fixed → ℕ → ℕ → ℕ → Option (ℕ × ℕ)
-next_asked tree level amount found = passed (parent_of level (node tree level)) (beyond_reservation (node tree level).reservation found
-    (found + amount))
-
--- the steps of a request of this size, from its allocator up, and what is to be asked next; the request has gone up all the way where
--- nothing is
-pub data Climbs (tree : List Fixed) (at size : ℕ) : List LevelStep → Option (ℕ × ℕ) → Type 0 where
-  begins : Climbs tree at size [] (Some (at, size))
-  adds : {steps : List LevelStep} {level amount : ℕ} (found : ℕ) → Climbs tree at size steps (Some (level, amount)) →
-      Climbs tree at size (steps ++ level_step tree level amount found ∷ []) (next_asked tree level amount found)
+-- which level is asked next and for how much, after an addition at a level
+abbrev pub next_asked : ℕ → Fixed → ℕ → ℕ → Option (ℕ × ℕ)
+next_asked level fixed amount found =
+    passed (parent_of level fixed) (beyond_reservation fixed.reservation found (found + amount))
 
 -- what a step adds, if it adds anything
 abbrev pub amount_of : StepKind → Option ℕ
@@ -42,21 +35,28 @@ amount_of (AddHeld amount) = Some amount
 amount_of (SubtractHeld amount) = None
 amount_of (ForgetChunk size) = None
 
--- an addition to a held word, and the load of the limit after it, are this step
-pub record IsLevel (step : LevelStep) (addition limit : Entry) : Type 0 where
-  pub held : addition.word ≡ held_word step.level
-  pub added : amount_of addition.kind ≡ Some step.amount
-  pub returned : addition.found ≡ step.old
-  pub read : limit.word ≡ limit_word step.level
-  pub loads : limit.kind ≡ LoadWord
-  pub limit_is : limit.found ≡ step.limit
+-- an entry loads a word, which returned this
+pub record IsLoadOf (word found : ℕ) (entry : Entry) : Type 0 where
+  pub word_is : entry.word ≡ word
+  pub kind : entry.kind ≡ LoadWord
+  pub returned : entry.found ≡ found
 
--- the entries show these steps, level by level
-pub data Shows : List Entry → List LevelStep → Type 0 where
-  none : Shows [] []
-  more : {entries : List Entry} {steps : List LevelStep} {step : LevelStep} {addition limit : Entry} → Shows entries steps →
-      IsLevel step addition limit
-      → Shows (entries ++ addition ∷ limit ∷ []) (steps ++ step ∷ [])
+-- an addition of an amount at a level, and after it the loads of what is fixed there
+pub record IsLevel (level amount : ℕ) (fixed : Fixed) (addition limit reservation parent : Entry) : Type 0 where
+  pub held : addition.word ≡ held_word level
+  pub added : amount_of addition.kind ≡ Some amount
+  pub limit_is : IsLoadOf (limit_word level) fixed.limit limit
+  pub reservation_is : IsLoadOf (reservation_word level) fixed.reservation reservation
+  pub parent_is : IsLoadOf (parent_word level) fixed.parent.0 parent
+
+-- The steps of a request of this size, from its allocator up, as these entries show them, and what is to be asked next; the request has
+-- gone up all the way where nothing is. At each level the amount is added, and the limit, the reservation and the parent are loaded
+pub data Climbs (at size : ℕ) : List Entry → List LevelStep → Option (ℕ × ℕ) → Type 0 where
+  begins : Climbs at size [] [] (Some (at, size))
+  adds : {entries : List Entry} {steps : List LevelStep} {level amount : ℕ} (fixed : Fixed) (addition limit reservation parent : Entry) →
+      Climbs at size entries steps (Some (level, amount)) → IsLevel level amount fixed addition limit reservation parent →
+      Climbs at size (entries ++ addition ∷ limit ∷ reservation ∷ parent ∷ []) (steps ++ level_step level fixed amount addition.found ∷ [])
+      (next_asked level fixed amount addition.found)
 
 -- the refusal of a step of a request that began at `at`
 abbrev pub full_at : ℕ → LevelStep → Full
@@ -79,50 +79,80 @@ abbrev pub first_of : Option Full → Option Full → Option Full
 first_of None second = second
 first_of (Some full) second = Some full
 
--- a view with more steps of its own, and with other numbers and chunks
-abbrev pub standing : View → List Entry → ℕ → ℕ → List Chunk → View
-standing old entries bytes turns chunks = record {
-  start = old.start;
-  own = record {
+-- a view that knows this, with more steps of its own, and with other numbers and chunks
+abbrev pub standing : View → List Known → List Entry → ℕ → ℕ → List Chunk → View
+standing old known entries bytes turns chunks = record old {
+  known = known;
+  own = record (old.own) {
     own_steps = old.own.own_steps ++ entries;
-    observed =
-        old.own.observed;
     bytes = bytes;
     turns = turns;
     chunks = chunks;
   };
-  offer = old.offer;
 }
 
--- the chunk in hand has gone up by these steps, and w is what that made of the view v
+-- the chunk in hand has gone up by these steps, and this is what that made of a view
 pub record HasClimbed (at size : ℕ) (forced : Bool) (chunk : Chunk) (rest : List Claim) (others : List Chunk) (bytes turns : ℕ)
     (old new : View) (steps : List LevelStep) (next : Option (ℕ × ℕ)) : Type 0 where
-  pub climb : Climbs old.start.tree at size steps next
   pub entries : List Entry
-  pub shows : Shows entries steps
+  pub climb : Climbs at size entries steps next
   -- a charge begins with its whole size, and a force begins nothing
   pub begins : sum_by begun entries ≡ (if forced then 0 else size)
-  pub view : new ≡ standing old entries bytes turns (charged_as chunk (claim_at at (goes_on next size forced steps) ∷ rest) ∷ others)
+  pub known : List Known
+  pub view : new ≡ standing old known entries bytes turns
+      (charged_as chunk (claim_at at (goes_on next size forced steps) ∷ rest) ∷ others)
 
--- what an addition at a level made of a view, with the load of the limit after it
-pub record HasRisen (level amount : ℕ) (old new : View) (found : ℕ) : Type 0 where
+-- the loads of what is fixed of a level, but for its limit
+abbrev pub above_read : ℕ → Fixed → ℕ → ℕ → View → View
+above_read level fixed second third old = stepping reading
+    (stepping reading old (entry second (reservation_word level) LoadWord fixed.reservation))
+    (entry third (parent_word level) LoadWord fixed.parent.0)
+
+-- and of all that is fixed of it
+abbrev pub level_read : ℕ → Fixed → ℕ → ℕ → ℕ → View → View
+level_read level fixed first second third old =
+    above_read level fixed second third (stepping reading old (entry first (limit_word level) LoadWord fixed.limit))
+
+-- what was read of a level is what is fixed of it
+pub record IsAbove (above : Above) (fixed : Fixed) : Type 0 where
+  pub reservation : above.reservation ≡ fixed.reservation
+  pub parent : above.parent ≡ fixed.parent.0
+
+-- the reservation and the parent of a level were read
+pub record ReadsAbove (level : ℕ) (above : Above) (old new : View) (fixed : Fixed) : Type 0 where
+  pub second_name : ℕ
+  pub third_name : ℕ
+  pub view : new ≡ above_read level fixed second_name third_name old
+  pub above_is : IsAbove above fixed
+
+-- and its limit before
+pub record ReadsLevel (level limit : ℕ) (above : Above) (old new : View) (fixed : Fixed) : Type 0 where
   pub first_name : ℕ
   pub second_name : ℕ
-  pub view : new ≡ stepping reading (stepping (rising old.start.tree) old (entry first_name (held_word level) (AddHeld amount) found))
-      (entry second_name (limit_word level) LoadWord (node old.start.tree level).limit)
+  pub third_name : ℕ
+  pub view : new ≡ level_read level fixed first_name second_name third_name old
+  pub limit_is : limit ≡ fixed.limit
+  pub above_is : IsAbove above fixed
 
--- the same for the addition with which a charge begins
-pub record HasBegun (at size : ℕ) (old new : View) (found : ℕ) : Type 0 where
+-- what an addition at a level made of a view, with the loads after it, the refusal there, and what is to be asked next
+pub record GoesUpLevel (at : ℕ) (act : StepKind) (make : ℕ → Fixed → Body → Entry → Body) (level amount : ℕ) (old new : View)
+    (full : Option Full) (next : Option (ℕ × ℕ)) : Type 0 where
+  pub fixed : Fixed
+  pub found : ℕ
+  pub name : ℕ
   pub first_name : ℕ
   pub second_name : ℕ
-  pub view : new ≡ stepping reading (stepping (beginning old.start.tree at size) old
-      (entry first_name (held_word at) (BeginCharge size) found))
-      (entry second_name (limit_word at) LoadWord (node old.start.tree at).limit)
+  pub third_name : ℕ
+  pub view : new ≡ level_read level fixed first_name second_name third_name
+      (stepping (make level fixed) (knowing level fixed old) (entry name (held_word level) act found))
+  pub after_parent : ComesAfterParent level fixed
+  pub full_is : full ≡ refusal_of at (level_step level fixed amount found ∷ [])
+  pub next_is : next ≡ next_asked level fixed amount found
 
--- the level that is asked next is one of the tree
-abbrev pub IsInTree : List Fixed → Option (ℕ × ℕ) → Type 0
-IsInTree tree None = Unit {0}
-IsInTree tree (Some next) = next.0 < length tree
+-- the level that is asked next is one of so many
+abbrev pub IsInTree : ℕ → Option (ℕ × ℕ) → Type 0
+IsInTree count None = Unit {0}
+IsInTree count (Some next) = next.0 < count
 
 -- how many levels may still follow
 abbrev pub levels_left : Option (ℕ × ℕ) → ℕ
@@ -158,13 +188,6 @@ GoesOn at new last_view full all next last =
     (steps : List LevelStep)
     → HasClimbed at size forced chunk rest others bytes turns old new steps next → full ≡ refusal_of at steps
     → (more : List LevelStep) × HasClimbed at size forced chunk rest others bytes turns old last_view more last × (all ≡ refusal_of at more)
-
--- what the first addition of a force made of a view, with the load of the limit after it
-pub record HasBegunForce (at size : ℕ) (old new : View) (found : ℕ) : Type 0 where
-  pub first_name : ℕ
-  pub second_name : ℕ
-  pub view : new ≡ stepping reading (stepping (forcing old.start.tree at size) old (entry first_name (held_word at) (AddHeld size) found))
-      (entry second_name (limit_word at) LoadWord (node old.start.tree at).limit)
 
 -- the chunk in hand, of this size, is forced onto `at` by these steps, beside what it is charged elsewhere
 pub record IsForced (at size : ℕ) (old new : View) (steps : List LevelStep) (next : Option (ℕ × ℕ)) : Type 0 where

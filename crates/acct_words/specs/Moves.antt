@@ -4,32 +4,32 @@ use Rattle.acct_core.specs.Claims.{Claim, claim_at}
 use Rattle.acct_core.specs.Phases.{Phase}
 use Rattle.acct_core.specs.Phases.Phase.{Up, Held, Failed, Down}
 use Rattle.acct_core.specs.declared.row.Row.{Row}
-use Rattle.acct_core.specs.Effects.{Effect, up_effect, down_effect, next_level}
+use Rattle.acct_core.specs.Effects.{Effect, up_effect, down_effect}
 use Rattle.acct_core.specs.FixedTrees.{settled}
 use Rattle.acct_words.specs.Places.{held_word}
 use Rattle.acct_words.specs.Entries.{Entry}
 use Rattle.acct_words.specs.declared.fixed.Fixed.{Fixed}
 use Rattle.acct_words.specs.Views.{Chunk, Body}
-use Rattle.acct_words.specs.Rows.{node, row_of}
+use Rattle.acct_words.specs.Bodies.{nothing}
+use Rattle.acct_words.specs.Rows.{row_of}
 
--- the row of n where its held word returned this
-abbrev pub found_row : List Fixed → ℕ → ℕ → Row
-found_row tree number found = row_of number (node tree number) found (node tree number).limit
+-- the row of n, of which this is fixed, where its held word returned this
+abbrev pub found_row : ℕ → Fixed → ℕ → Row
+found_row number fixed found = row_of number fixed found fixed.limit
 
 -- the claim after an effect, if there is one
 abbrev pub claim_after : Option Effect → Claim → Claim
 claim_after None claim = claim
 claim_after (Some effect) claim = effect.claim
 
--- the claim after it added what it had pending, where the word returned this
-abbrev pub risen : List Fixed → ℕ → Claim → Claim
-risen tree found claim = claim_after (up_effect claim claim.phase (found_row tree (next_level claim.node claim.phase) found)) claim
+-- the claim after it added what it had pending at n, where the word returned this
+abbrev pub risen : ℕ → Fixed → ℕ → Claim → Claim
+risen number fixed found claim = claim_after (up_effect claim claim.phase (found_row number fixed found)) claim
 
 -- a body with other steps, budget and chunks
 abbrev pub with_step : Body → Entry → ℕ → ℕ → List Chunk → Body
-with_step body entry bytes turns chunks = record {
+with_step body entry bytes turns chunks = record body {
   own_steps = body.own_steps ++ entry ∷ [];
-  observed = body.observed;
   bytes = bytes;
   turns = turns;
   chunks = chunks;
@@ -37,7 +37,7 @@ with_step body entry bytes turns chunks = record {
 
 -- a chunk with other charges
 abbrev pub charged_as : Chunk → List Claim → Chunk
-charged_as chunk charges = record { number = chunk.number; size = chunk.size; charges = charges }
+charged_as chunk charges = record chunk { charges = charges }
 
 -- what becomes of the first chunk
 abbrev pub first_chunk : (Chunk → Chunk) → List Chunk → List Chunk
@@ -59,27 +59,27 @@ drawing body entry = with_step body entry body.bytes (body.turns - 1) (record {
 } ∷ body.chunks)
 
 -- the first chunk's request begins at m, with the bytes that it spends
-abbrev pub beginning : List Fixed → ℕ → ℕ → Body → Entry → Body
-beginning tree level size body entry = with_step body entry (body.bytes - size) body.turns
+abbrev pub beginning : ℕ → ℕ → Fixed → Body → Entry → Body
+beginning size level fixed body entry = with_step body entry (body.bytes - size) body.turns
     (first_chunk (λ chunk. record {
       number = chunk.number;
       size = size;
       charges =
-          risen tree entry.found (claim_at level (Up size level size false [])) ∷ [];
+          risen level fixed entry.found (claim_at level (Up size level size false [])) ∷ [];
     }) body.chunks)
 
 -- the first chunk's size is forced onto m, beside what it is charged elsewhere
-abbrev pub forcing : List Fixed → ℕ → ℕ → Body → Entry → Body
-forcing tree level size body entry =
+abbrev pub forcing : ℕ → ℕ → Fixed → Body → Entry → Body
+forcing size level fixed body entry =
     with_step body entry body.bytes body.turns
-    (first_chunk (λ chunk. charged_as chunk (risen tree entry.found (claim_at level (Up size level size true [])) ∷ chunk.charges))
+    (first_chunk (λ chunk. charged_as chunk (risen level fixed entry.found (claim_at level (Up size level size true [])) ∷ chunk.charges))
     body.chunks)
 
 -- the first chunk's first charge goes up
-abbrev pub rising : List Fixed → Body → Entry → Body
-rising tree body entry =
+abbrev pub rising : ℕ → Fixed → Body → Entry → Body
+rising level fixed body entry =
     with_step body entry body.bytes body.turns
-    (first_chunk (λ chunk. charged_as chunk (first_charge (risen tree entry.found) chunk.charges)) body.chunks)
+    (first_chunk (λ chunk. charged_as chunk (first_charge (risen level fixed entry.found) chunk.charges)) body.chunks)
 
 -- a word is read
 abbrev pub reading : Body → Entry → Body
@@ -101,7 +101,7 @@ parting body entry = with_step body entry body.bytes body.turns (other_chunks bo
 
 -- and this is the offer
 abbrev pub parted : Body → Body
-parted body = record { own_steps = []; observed = []; bytes = 0; turns = 0; chunks = one_chunk body.chunks }
+parted body = record nothing { chunks = one_chunk body.chunks }
 
 -- a charge that is held or failed turns round, with its whole size pending at its allocator
 abbrev pub turned_phase : ℕ → Phase → Phase
@@ -111,11 +111,11 @@ turned_phase number phase = phase
 
 -- the claim after that
 abbrev pub turned : Claim → Claim
-turned claim = record { node = claim.node; under = claim.under; phase = turned_phase claim.node claim.phase }
+turned claim = record claim { phase = turned_phase claim.node claim.phase }
 
--- the claim after it subtracted what it had pending, where the word returned this
-abbrev pub fallen : List Fixed → ℕ → Claim → Claim
-fallen tree found claim = claim_after (down_effect claim claim.phase (found_row tree (next_level claim.node claim.phase) found)) claim
+-- the claim after it subtracted what it had pending at n, where the word returned this
+abbrev pub fallen : ℕ → Fixed → ℕ → Claim → Claim
+fallen number fixed found claim = claim_after (down_effect claim claim.phase (found_row number fixed found)) claim
 
 -- a claim behind the first one
 abbrev pub behind : Claim → List Claim → List Claim
@@ -128,25 +128,24 @@ to_front word [] = []
 to_front word (claim ∷ charges) = if held_word claim.node == word then claim ∷ charges else behind claim (to_front word charges)
 
 -- what becomes of the charges where the first one goes down
-abbrev pub falling_charges : List Fixed → ℕ → List Claim → List Claim
-falling_charges tree found [] = []
-falling_charges tree found (claim ∷ rest) = settled (fallen tree found claim) rest
+abbrev pub falling_charges : ℕ → Fixed → ℕ → List Claim → List Claim
+falling_charges level fixed found [] = []
+falling_charges level fixed found (claim ∷ rest) = settled (fallen level fixed found claim) rest
 
 -- what becomes of them where the first one turns round, and goes down
-abbrev pub turning_charges : List Fixed → ℕ → List Claim → List Claim
-turning_charges tree found [] = []
-turning_charges tree found (claim ∷ rest) = settled (fallen tree found (turned claim)) rest
+abbrev pub turning_charges : ℕ → Fixed → ℕ → List Claim → List Claim
+turning_charges level fixed found [] = []
+turning_charges level fixed found (claim ∷ rest) = settled (fallen level fixed found (turned claim)) rest
 
 -- the first chunk's first charge goes down
-abbrev pub falling : List Fixed → Body → Entry → Body
-falling tree body entry =
-    with_step body entry body.bytes body.turns (first_chunk (λ chunk. charged_as chunk (falling_charges tree entry.found chunk.charges))
-    body.chunks)
+abbrev pub falling : ℕ → Fixed → Body → Entry → Body
+falling level fixed body entry = with_step body entry body.bytes body.turns
+    (first_chunk (λ chunk. charged_as chunk (falling_charges level fixed entry.found chunk.charges)) body.chunks)
 
 -- the first chunk's charge at the step's allocator turns round, and goes down
-abbrev pub turning : List Fixed → Body → Entry → Body
-turning tree body entry = with_step body entry body.bytes body.turns
-    (first_chunk (λ chunk. charged_as chunk (turning_charges tree entry.found (to_front entry.word chunk.charges))) body.chunks)
+abbrev pub turning : ℕ → Fixed → Body → Entry → Body
+turning level fixed body entry = with_step body entry body.bytes body.turns
+    (first_chunk (λ chunk. charged_as chunk (turning_charges level fixed entry.found (to_front entry.word chunk.charges))) body.chunks)
 
 -- a part of the budget is offered
 abbrev pub paying : ℕ → ℕ → Body → Entry → Body
@@ -154,4 +153,4 @@ paying bytes turns body entry = with_step body entry (body.bytes - bytes) (body.
 
 -- and this is the offer
 abbrev pub paid : ℕ → ℕ → Body
-paid bytes turns = record { own_steps = []; observed = []; bytes = bytes; turns = turns; chunks = [] }
+paid bytes turns = record nothing { bytes = bytes; turns = turns }

@@ -17,6 +17,14 @@ held_word number = 16 * number + 32
 abbrev pub limit_word : ℕ → ℕ
 limit_word number = 16 * number + 33
 
+-- what its parent sets aside for it
+abbrev pub reservation_word : ℕ → ℕ
+reservation_word number = 16 * number + 35
+
+-- its parent
+abbrev pub parent_word : ℕ → ℕ
+parent_word number = 16 * number + 36
+
 -- how many words so many allocators have
 abbrev pub word_count : ℕ → ℕ
 word_count number = 16 * number + 32

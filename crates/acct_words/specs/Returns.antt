@@ -18,9 +18,9 @@ pub record HasComeBack (start : Start) (at size : ℕ) (old new : CallerToken) :
   pub between : CallerToken
   pub chunk : ChunkToken
   pub bare : ChunkToken
-  pub charged : HasCharged start.tree at size number old.history between.history
+  pub charged : HasCharged at size number old.history between.history
   pub spent : between.budget.bytes + size ≡ old.budget.bytes
   pub shown : chunk.history ≡ shown_history between.history
-  pub released : HasDischarged start.tree at size chunk.history bare.history
+  pub released : HasDischarged at size chunk.history bare.history
   pub taken_in : TakesIn (ForgetChunk size) between.history bare.history new.history
   pub kept : new.budget ≡ between.budget

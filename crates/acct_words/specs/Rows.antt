@@ -4,7 +4,7 @@ use Rattle.acct_core.specs.declared.row.Row.{Row}
 use Rattle.acct_core.specs.Claims.{Claim, Account, account}
 use Rattle.acct_words.specs.declared.fixed.Fixed.{Fixed}
 use Rattle.acct_words.specs.Views.{Chunk, View}
-use Rattle.acct_words.specs.Places.{held_word, limit_word}
+use Rattle.acct_words.specs.Places.{held_word, limit_word, reservation_word, parent_word}
 
 -- the allocator that stands for all numbers without one
 abbrev pub no_node : Fixed
@@ -34,6 +34,14 @@ row_of number fixed held limit = record {
   uses = 0;
 }
 
+-- what is fixed of the allocator n, as its words say
+abbrev pub fixed_in : ℕ → List ℕ → Fixed
+fixed_in number words = record {
+  parent = record { 0 = slice_index words (parent_word number) };
+  reservation = slice_index words (reservation_word number);
+  limit = slice_index words (limit_word number);
+}
+
 -- the rows that the words show, from the number n on
 abbrev pub rows_of : List Fixed → ℕ → List ℕ → List Row
 rows_of [] number words = []
@@ -54,6 +62,10 @@ claims_of (view ∷ views) = (charges_of view.own.chunks ++ charges_of view.offe
 abbrev pub shown : List Fixed → List ℕ → List View → Account
 shown tree words views = account (rows_of tree 0 words) (claims_of views)
 
--- each allocator but the root comes after its parent
+-- an allocator of which this is fixed comes after its parent, if it has one
+abbrev pub ComesAfterParent : ℕ → Fixed → Type 0
+ComesAfterParent number fixed = (parent : ℕ) → parent_of number fixed ≡ Some parent → parent < number
+
+-- each allocator comes after its parent
 abbrev pub HasParentsBefore : List Fixed → Type 0
-HasParentsBefore tree = (number parent : ℕ) → parent_of number (node tree number) ≡ Some parent → parent < number
+HasParentsBefore tree = (number : ℕ) → ComesAfterParent number (node tree number)

@@ -10,11 +10,11 @@ use Rattle.acct_core.specs.Phases.{size_of}
 use Rattle.acct_core.specs.Lawful.{IsLawfulFixedTree}
 use Rattle.acct_words.specs.Entries.{Entry, reached, draw_count, begun, forgotten, drawn, drew, InHistory}
 use Rattle.acct_words.specs.declared.fixed.Fixed.{Fixed}
-use Rattle.acct_words.specs.Views.{Start, Chunk, Body, View}
+use Rattle.acct_words.specs.Views.{Start, Chunk, Known, Body, View}
 use Rattle.acct_words.specs.declared.fixed.Opening.{Opening}
-use Rattle.acct_words.specs.Places.{number_word, limit_word, word_count}
+use Rattle.acct_words.specs.Places.{number_word, word_count}
 use Rattle.acct_words.specs.Bodies.{nothing, total, made, bytes_left, turns_left, chunk_sizes, numbered}
-use Rattle.acct_words.specs.Rows.{node, shown}
+use Rattle.acct_words.specs.Rows.{node, fixed_in, shown}
 
 -- what a table was told, as a list of allocators and two numbers
 abbrev pub start_of : Opening → Start
@@ -64,11 +64,16 @@ pub record IsSmall (start : Start) : Type 0 where
   pub turns : start.turns < MOST_NUMBERS
   pub reservations : sum (reservations start.tree) ≤ 2 ^ 46
 
--- the words of the tree, of which nobody writes a limit
+-- the words of the tree, of which nobody writes what is fixed of an allocator
 pub record IsLaidOut (start : Start) (words : List ℕ) : Type 0 where
   pub small : IsSmall start
   pub wide : length words ≡ word_count (length start.tree)
-  pub limits : (number : ℕ) → number < length start.tree → slice_index words (limit_word number) ≡ (node start.tree number).limit
+  pub fixed : (number : ℕ) → number < length start.tree → fixed_in number words ≡ node start.tree number
+
+-- what a token knows of an allocator is so
+pub record IsKnown (start : Start) (known : Known) : Type 0 where
+  pub inside : known.level < length start.tree
+  pub fixed : node start.tree known.level ≡ known.fixed
 
 -- each step of the history stands in one token's own steps, and the history is one that the table can have
 pub record ShareHistory (start : Start) (history : List Entry) (views : List View) : Type 0 where
@@ -97,6 +102,7 @@ pub record IsSoundTable {S : Type 0} (start : Start) (state : State S View) : Ty
   pub steps : ShareHistory start history state.views
   -- what each token shows stands in the history, and each of its chunks has at most two charges, each of at most its size
   pub tokens : (id : ℕ) (view : View) → get_elem? state.views id ≡ some view → IsGoodView history view
+  pub known : (id : ℕ) (view : View) → get_elem? state.views id ≡ some view → All (IsKnown start) view.known
   pub budget : KeepsBudget start history state.views
   pub numbers : AreDrawn history state.words state.views
 
@@ -104,14 +110,8 @@ pub record IsSoundTable {S : Type 0} (start : Start) (state : State S View) : Ty
 abbrev pub first : Start → View
 first start = record {
   start = start;
-  own = record {
-    own_steps = [];
-    observed = [];
-    bytes = start.bytes;
-    turns = start.turns;
-    chunks =
-        [];
-  };
+  known = [];
+  own = record nothing { bytes = start.bytes; turns = start.turns };
   offer = nothing;
 }
 

@@ -25,8 +25,15 @@ pub record Body : Type 0 where
   pub turns : ℕ
   pub chunks : List Chunk
 
--- what a token keeps, and what its next split gives away; what the table was opened with is shown by each
+-- what is fixed of an allocator, as a token knows it
+pub record Known : Type 0 where
+  pub level : ℕ
+  pub fixed : Fixed
+
+-- what a token keeps, and what its next split gives away; what the table was opened with is shown by each, and what the token knows of
+-- allocators at which it made a step, the latest first
 pub record View : Type 0 where
   pub start : Start
+  pub known : List Known
   pub own : Body
   pub offer : Body

@@ -7,7 +7,6 @@ ghost use Rattle.acct_words.specs.Charges.{ViewCharges, ViewRefuses};
 ghost use Rattle.acct_words.specs.Rule.{KnowsWorstCase};
 
 use crate::climb::climb;
-use crate::fixed::Fixed;
 use crate::release::release;
 use crate::rule::Counters;
 use crate::steps::{Token, draw, forget, part};
@@ -16,14 +15,12 @@ use mem_num::Full;
 /// Charges a new chunk at an allocator, after `Accountant.allocateBytes`, and answers its number and its token.
 pub fn charge(
     words: &Counters,
-    nodes: &[Fixed],
     token: &mut Token,
     at: usize,
     size: u64,
 ) -> Result<(u64, Token), Full>
     requires table { IsOf words.now token.old }
-    requires nodes { nodes.now ≡ words.now.key.nodes.items }
-    requires level { at < length nodes.now }
+    requires level { at < length words.now.key.nodes.items }
     requires whole { token.old.me.0.offer ≡ nothing }
     requires budget { (1 ≤ token.old.me.0.own.turns) × (size ≤ token.old.me.0.own.bytes) }
     requires size { (1 ≤ size) × (size ≤ MAX_RESERVATION) }
@@ -35,10 +32,10 @@ pub fn charge(
     ensures full { IfErr result (λ full. ViewRefuses at size token.old.me.0 token.new.me.0 full) }
 {
     let number = draw(words, token);
-    match climb(words, nodes, token, at, size) {
+    match climb(words, token, at, size) {
         None => Ok((number, part(words, token))),
         Some(full) => {
-            release(words, nodes, token, at, size);
+            release(words, token, at, size);
             forget(words, token);
             Err(full)
         }

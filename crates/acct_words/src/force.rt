@@ -3,57 +3,48 @@ ghost use Rattle.std.specs.Prelude.{◌≡◌, ℕ, ◌^◌, ◌<◌, ◌≤◌,
 ghost use Rattle.mem_num.specs.declared.bounds.TheConstants.{MAX_RESERVATION};
 ghost use Rattle.acct_core.specs.declared.level_step.LevelStep.{LevelStep};
 ghost use Rattle.acct_words.specs.Calls.{IsOf, HasRoom};
-ghost use Rattle.acct_words.specs.Climbs.{HasBegunForce, IsForced, level_step, next_asked, refusal_of};
+ghost use Rattle.acct_words.specs.Climbs.{GoesUpLevel, IsForced, refusal_of};
+ghost use Rattle.acct_words.specs.Entries.StepKind.{AddHeld};
+ghost use Rattle.acct_words.specs.Moves.{forcing};
 
-use crate::climb::{climb_on, next_level, refused_at};
-use crate::fixed::Fixed;
+use crate::climb::{climb_on, refused_at};
+use crate::level::{asked_next, read_level};
 use crate::rule::Counters;
-use crate::steps::{Token, begin_force, read_limit};
+use crate::steps::{Token, begin_force};
 use mem_num::Full;
 
 /// Begins a force: adds at its allocator, and reads the limit there.
 fn force_level(
     words: &Counters,
-    nodes: &[Fixed],
     token: &mut Token,
     at: usize,
     size: u64,
 ) -> (Option<Full>, Option<(usize, u64)>)
     requires table { IsOf words.now token.old }
-    requires nodes { nodes.now ≡ words.now.key.nodes.items }
-    requires level { at < length nodes.now }
+    requires level { at < length words.now.key.nodes.items }
     requires chunk { HasRoom size token.old.me.0 }
     requires size { (1 ≤ size) × (size ≤ MAX_RESERVATION) }
     ensures table { (token.new.table_id ≡ token.old.table_id) × (token.new.me.1 ≡ token.old.me.1) }
-    ensures level { (found : ℕ) × HasBegunForce at size token.old.me.0 token.new.me.0 found
-        × (result.0 ≡ refusal_of at (level_step nodes.now at size found ∷ []))
-        × (result.1 ≡ next_asked nodes.now at size found) }
+    ensures level { GoesUpLevel at (AddHeld size) (forcing size) at size token.old.me.0 token.new.me.0 result.0 result.1 }
 {
     let found = begin_force(words, token, at, size);
-    let limit = read_limit(words, token, at);
+    let (limit, above) = read_level(words, token, at);
     (
         refused_at(at, at, found, size, limit),
-        next_level(nodes, at, size, found),
+        asked_next(at, above, size, found),
     )
 }
 
 /// Charges the chunk in hand a second time, at an allocator and further up, and undoes nothing.
-pub fn force(
-    words: &Counters,
-    nodes: &[Fixed],
-    token: &mut Token,
-    at: usize,
-    size: u64,
-) -> Option<Full>
+pub fn force(words: &Counters, token: &mut Token, at: usize, size: u64) -> Option<Full>
     requires table { IsOf words.now token.old }
-    requires nodes { nodes.now ≡ words.now.key.nodes.items }
-    requires level { at < length nodes.now }
+    requires level { at < length words.now.key.nodes.items }
     requires chunk { HasRoom size token.old.me.0 }
     requires size { (1 ≤ size) × (size ≤ MAX_RESERVATION) }
     ensures table { (token.new.table_id ≡ token.old.table_id) × (token.new.me.1 ≡ token.old.me.1) }
     ensures forced { (steps : List LevelStep) × IsForced at size token.old.me.0 token.new.me.0 steps None
         × (result ≡ refusal_of at steps) }
 {
-    let (full, next) = force_level(words, nodes, token, at, size);
-    climb_on(words, nodes, token, at, full, next)
+    let (full, next) = force_level(words, token, at, size);
+    climb_on(words, token, at, full, next)
 }

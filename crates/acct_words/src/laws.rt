@@ -28,6 +28,6 @@ pub fn charges_that_come_back_leave_nothing()
     ensures charged { (start : Start) (at size : ℕ) (old new : CallerToken) → HasComeBack start at size old new →
         HasGivenAllBack start old → HasGivenAllBack start new }
     ensures refused { (start : Start) (at size : ℕ) (old new : CallerToken) (full : Full) →
-        HasBeenRefused start.tree at size old.history new.history full → new.budget.bytes + size ≡ old.budget.bytes →
+        HasBeenRefused at size old.history new.history full → new.budget.bytes + size ≡ old.budget.bytes →
         HasGivenAllBack start old → HasGivenAllBack start new }
 {}

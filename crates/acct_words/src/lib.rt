@@ -9,6 +9,7 @@ mod climb;
 mod fixed;
 mod force;
 mod laws;
+mod level;
 mod opening;
 mod pass;
 mod release;

@@ -7,7 +7,7 @@ use crate::fixed::Fixed;
 use mem_num::{MAX_RESERVATION, MOST_ALLOCATORS, NoMemory};
 use std::alloc::Global;
 
-/// Writes the limit of an allocator, and counts the allocator at its parent; those of larger numbers were counted before.
+/// Writes what is fixed of an allocator, and counts the allocator at its parent; those of larger numbers were counted before.
 fn fill_level(nodes: &[Fixed], words: &mut [u64], level: usize)
     requires level { level < length nodes.now }
     requires tree { IsFixedTree nodes.now }
@@ -16,6 +16,8 @@ fn fill_level(nodes: &[Fixed], words: &mut [u64], level: usize)
 {
     let node = &nodes[level];
     words[16 * level + 33] = node.limit;
+    words[16 * level + 35] = node.reservation;
+    words[16 * level + 36] = node.parent.0 as u64;
     if level > 0 {
         let counted = words[16 * level + 32].max(node.reservation);
         words[16 * node.parent.0 as usize + 32] += counted;

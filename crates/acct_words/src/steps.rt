@@ -9,10 +9,9 @@ ghost use Rattle.acct_core.specs.Claims.{claim_at};
 ghost use Rattle.acct_words.specs.Entries.StepKind.{LoadWord, DrawChunkNumber, BeginCharge, AddHeld, SubtractHeld, ForgetChunk};
 ghost use Rattle.acct_words.specs.Calls.{IsOf, HasChunk, HasEmptyChunk, HasRoom, GoesUp, TurnsBack, GoesDown, HasParted};
 ghost use Rattle.acct_words.specs.Moves.{drawing, beginning, forcing, rising, reading, parting, falling, turning};
-ghost use Rattle.acct_words.specs.Places.{still_word, number_word, held_word, limit_word};
-ghost use Rattle.acct_words.specs.Plays.{Steps, TellsHeld, entry, first_size, paying_view};
+ghost use Rattle.acct_words.specs.Places.{still_word, number_word, held_word, limit_word, reservation_word, parent_word};
+ghost use Rattle.acct_words.specs.Plays.{Steps, StepsAt, TellsFixed, TellsHeld, entry, first_size, paying_view};
 ghost use Rattle.acct_words.specs.Bodies.{nothing, left, right, both};
-ghost use Rattle.acct_words.specs.Rows.{node};
 ghost use Rattle.acct_words.specs.Rule.{KnowsHistory};
 
 use crate::rule::{
@@ -42,8 +41,7 @@ pub fn begin(words: &Counters, token: &mut Token, level: usize, size: u64) -> u6
     requires chunk { HasEmptyChunk token.old.me.0 }
     requires size { (1 ≤ size) × (size ≤ MAX_RESERVATION) × (size ≤ token.old.me.0.own.bytes) }
     ensures table { (token.new.table_id ≡ token.old.table_id) × (token.new.me.1 ≡ token.old.me.1) }
-    ensures view { Steps (BeginCharge size) (beginning token.old.me.0.start.tree level size) (held_word level)
-        result token.old.me.0 token.new.me.0 }
+    ensures view { StepsAt (BeginCharge size) (beginning size) level result token.old.me.0 token.new.me.0 }
     ensures small { result + size < 2 ^ 63 }
 {
     words.fetch_add::<Beginning>(token, 16 * level + 32, size)
@@ -56,8 +54,7 @@ pub fn begin_force(words: &Counters, token: &mut Token, level: usize, size: u64)
     requires chunk { HasRoom size token.old.me.0 }
     requires size { (1 ≤ size) × (size ≤ MAX_RESERVATION) }
     ensures table { (token.new.table_id ≡ token.old.table_id) × (token.new.me.1 ≡ token.old.me.1) }
-    ensures view { Steps (AddHeld size) (forcing token.old.me.0.start.tree level size) (held_word level) result
-        token.old.me.0 token.new.me.0 }
+    ensures view { StepsAt (AddHeld size) (forcing size) level result token.old.me.0 token.new.me.0 }
     ensures small { result + size < 2 ^ 63 }
 {
     words.fetch_add::<Forcing>(token, 16 * level + 32, size)
@@ -69,8 +66,7 @@ pub fn rise(words: &Counters, token: &mut Token, level: usize, amount: u64) -> u
     requires level { level < length words.now.key.nodes.items }
     requires up { GoesUp level amount token.old.me.0 }
     ensures table { (token.new.table_id ≡ token.old.table_id) × (token.new.me.1 ≡ token.old.me.1) }
-    ensures view { Steps (AddHeld amount) (rising token.old.me.0.start.tree) (held_word level) result
-        token.old.me.0 token.new.me.0 }
+    ensures view { StepsAt (AddHeld amount) rising level result token.old.me.0 token.new.me.0 }
     ensures small { result + amount < 2 ^ 63 }
 {
     words.fetch_add::<Rising>(token, 16 * level + 32, amount)
@@ -82,9 +78,31 @@ pub fn read_limit(words: &Counters, token: &mut Token, level: usize) -> u64
     requires level { level < length words.now.key.nodes.items }
     ensures table { (token.new.table_id ≡ token.old.table_id) × (token.new.me.1 ≡ token.old.me.1) }
     ensures view { Steps LoadWord reading (limit_word level) result token.old.me.0 token.new.me.0 }
-    ensures limit { result ≡ (node token.old.me.0.start.tree level).limit }
+    ensures tells { TellsFixed (limit_word level) result token.old.me.0 }
 {
     words.load::<Reading>(token, 16 * level + 33)
+}
+
+/// Reads what is reserved for a level at its parent.
+pub fn read_reservation(words: &Counters, token: &mut Token, level: usize) -> u64
+    requires table { IsOf words.now token.old }
+    requires level { level < length words.now.key.nodes.items }
+    ensures table { (token.new.table_id ≡ token.old.table_id) × (token.new.me.1 ≡ token.old.me.1) }
+    ensures view { Steps LoadWord reading (reservation_word level) result token.old.me.0 token.new.me.0 }
+    ensures tells { TellsFixed (reservation_word level) result token.old.me.0 }
+{
+    words.load::<Reading>(token, 16 * level + 35)
+}
+
+/// Reads the number of a level's parent.
+pub fn read_parent(words: &Counters, token: &mut Token, level: usize) -> u64
+    requires table { IsOf words.now token.old }
+    requires level { level < length words.now.key.nodes.items }
+    ensures table { (token.new.table_id ≡ token.old.table_id) × (token.new.me.1 ≡ token.old.me.1) }
+    ensures view { Steps LoadWord reading (parent_word level) result token.old.me.0 token.new.me.0 }
+    ensures tells { TellsFixed (parent_word level) result token.old.me.0 }
+{
+    words.load::<Reading>(token, 16 * level + 36)
 }
 
 /// Reads what a level holds.
@@ -118,8 +136,7 @@ pub fn turn(words: &Counters, token: &mut Token, level: usize, size: u64) -> u64
     requires level { level < length words.now.key.nodes.items }
     requires turns { TurnsBack level size token.old.me.0 }
     ensures table { (token.new.table_id ≡ token.old.table_id) × (token.new.me.1 ≡ token.old.me.1) }
-    ensures view { Steps (SubtractHeld size) (turning token.old.me.0.start.tree) (held_word level) result
-        token.old.me.0 token.new.me.0 }
+    ensures view { StepsAt (SubtractHeld size) turning level result token.old.me.0 token.new.me.0 }
     ensures covered { (size ≤ result) × (result < 2 ^ 63) }
 {
     words.fetch_sub::<Turning>(token, 16 * level + 32, size)
@@ -131,8 +148,7 @@ pub fn fall(words: &Counters, token: &mut Token, level: usize, amount: u64) -> u
     requires level { level < length words.now.key.nodes.items }
     requires down { GoesDown level amount token.old.me.0 }
     ensures table { (token.new.table_id ≡ token.old.table_id) × (token.new.me.1 ≡ token.old.me.1) }
-    ensures view { Steps (SubtractHeld amount) (falling token.old.me.0.start.tree) (held_word level) result
-        token.old.me.0 token.new.me.0 }
+    ensures view { StepsAt (SubtractHeld amount) falling level result token.old.me.0 token.new.me.0 }
     ensures covered { (amount ≤ result) × (result < 2 ^ 63) }
 {
     words.fetch_sub::<Falling>(token, 16 * level + 32, amount)

@@ -41,7 +41,6 @@ impl Model for Words {
     ghost use Rattle.std.specs.Prelude.{◌≡◌, ◌≤◌, length};
     ghost use Rattle.mem_num.specs.declared.bounds.TheConstants.{MOST_ALLOCATORS};
     ghost use Rattle.acct_words.specs.Places.{word_count};
-    ghost use Rattle.acct_words.specs.Rows.{HasParentsBefore};
     ghost use Rattle.acct_words.specs.Rule.{start_of};
     ghost use Rattle.acct_words.specs.Tokens.{AccountsTable};
 
@@ -51,7 +50,7 @@ impl Model for Words {
 
     ghost invariant = { λ words. (words.table.shared.key ≡ words.opening)
         × (words.table.shared.table_id.words ≡ word_count (length words.opening.nodes.items))
-        × (length words.opening.nodes.items ≤ MOST_ALLOCATORS) × HasParentsBefore words.opening.nodes.items };
+        × (length words.opening.nodes.items ≤ MOST_ALLOCATORS) };
 }
 
 impl Words {
@@ -93,26 +92,19 @@ impl Words {
 
         // It succeeds only where each level that it touched stayed within its limit.
         ensures charged { IfOk result (λ chunk.
-            HasCharged self.now.start.tree at.0 size chunk.number pass.old.history pass.new.history) }
+            HasCharged at.0 size chunk.number pass.old.history pass.new.history) }
         ensures chunk { IfOk result (λ chunk. (chunk.table ≡ self.now) × (chunk.size ≡ size)
             × (chunk.charged ≡ at.0 ∷ [])
             × (chunk.history ≡ shown_history pass.new.history)) }
 
         // A refusal tells what its own step found at the lowest level past its limit, and leaves no charge.
         ensures full { IfErr result (λ full.
-            HasBeenRefused self.now.start.tree at.0 size pass.old.history pass.new.history full) }
+            HasBeenRefused at.0 size pass.old.history pass.new.history full) }
         ensures past { IfErr result (λ full. full.limit < full.held + full.amount) }
         ensures bound { IfErr result (λ full.
             IsWithinWorstCase self.now.start pass.new.history (full.held + full.amount)) }
     {
-        let nodes = self.opening.nodes.as_slice();
-        let charged = charge::charge(
-            &self.table.shared,
-            nodes,
-            &mut pass.token,
-            at.0 as usize,
-            size,
-        );
+        let charged = charge::charge(&self.table.shared, &mut pass.token, at.0 as usize, size);
         pass.budget.bytes -= size;
         pass.budget.turns -= 1;
         match charged {
@@ -134,12 +126,10 @@ impl Words {
         ensures chunk { (seat.new.table ≡ self.now) × (seat.new.number ≡ seat.old.number)
             × (seat.new.size ≡ seat.old.size) }
         ensures charged { seat.new.charged ≡ at.0 ∷ seat.old.charged }
-        ensures forced { HasForced self.now.start.tree at.0 seat.old.size seat.old.history seat.new.history result }
+        ensures forced { HasForced at.0 seat.old.size seat.old.history seat.new.history result }
     {
-        let nodes = self.opening.nodes.as_slice();
         force::force(
             &self.table.shared,
-            nodes,
             &mut seat.token,
             at.0 as usize,
             seat.size,
@@ -155,12 +145,10 @@ impl Words {
         ensures chunk { (seat.new.table ≡ self.now) × (seat.new.number ≡ seat.old.number)
             × (seat.new.size ≡ seat.old.size) }
         ensures charged { seat.new.charged ≡ without at.0 seat.old.charged }
-        ensures released { HasDischarged self.now.start.tree at.0 seat.old.size seat.old.history seat.new.history }
+        ensures released { HasDischarged at.0 seat.old.size seat.old.history seat.new.history }
     {
-        let nodes = self.opening.nodes.as_slice();
         release::release(
             &self.table.shared,
-            nodes,
             &mut seat.token,
             at.0 as usize,
             seat.size,

@@ -1,7 +1,9 @@
 use Rattle.std.proofs.Common.{refl, ap, ◌∙◌, sym, subst}
-use Rattle.acct_words.specs.Rows.{HasParentsBefore}
+use Rattle.std.specs.Prelude.{length}
+use Rattle.acct_words.specs.Entries.StepKind.{AddHeld}
+use Rattle.acct_words.specs.Moves.{rising}
 use Rattle.acct_words.specs.Climbs.{GoesOn, IsGoing, IsInTree}
-use Rattle.acct_words.proofs.ClimbLemmas.{level_goes_on, goes_on_then, going_on, going_up, next_in_tree}
+use Rattle.acct_words.proofs.ClimbLemmas.{level_goes_on, goes_on_then, going_on, going_up, asked_in_tree}
 use Rattle.acct_words.proofs.climb.climb_on.Goals as goal
 
 pub loop-next-init : goal.loop-next-init
@@ -20,23 +22,21 @@ climb_level-refused-requires-clause-up c =
 
 pub loop-next-preserved : goal.loop-next-preserved
 loop-next-preserved c =
-    let t = c.requires.table in
     let i = c.loop-next.invariant in
     let e = c.climb_level-refused.ensures.level in
-    let n = c.args.nodes.now in
     let full = c.loop-next.full in
     let w = c.loop-next.token.me.0 in
     let x = c.climb_level-refused.new.token.me.0 in
-    let tree = ap (λ (y : _). y.tree) (i.start ∙ t.start) ∙ sym c.requires.nodes in
+    let count = length c.args.words.now.key.nodes.items in
     let one : GoesOn c.args.at w x full c.keep_first.new.full c.loop-next.next c.climb_level-refused.result.1
     = subst (λ (o : _). GoesOn c.args.at w x full c.keep_first.new.full o c.climb_level-refused.result.1) (sym c.in-Some.is)
-    (level_goes_on n c.args.at c.in-Some.level c.in-Some.amount e.0 w x full c.climb_level-refused.result.0 c.keep_first.new.full
-    c.climb_level-refused.result.1 tree e.1 e.2 e.3 c.keep_first.ensures) in
+    (level_goes_on c.args.at c.in-Some.level c.in-Some.amount w x full c.climb_level-refused.result.0 c.keep_first.new.full
+    c.climb_level-refused.result.1 e c.keep_first.ensures) in
     record {
       table = (c.climb_level-refused.ensures.table.0 ∙ i.table.0, c.climb_level-refused.ensures.table.1 ∙ i.table.1);
-      start = ap (λ (y : _). y.start) e.1.view ∙ i.start;
-      inside = subst (IsInTree n) (sym e.3) (next_in_tree n c.in-Some.level c.in-Some.amount e.0 (subst (λ (l : _). HasParentsBefore l)
-          (sym c.requires.nodes) t.parents) (subst (IsInTree n) c.in-Some.is i.inside));
+      start = ap (λ (y : _). y.start) e.view ∙ i.start;
+      inside = asked_in_tree count c.args.at c.in-Some.level c.in-Some.amount (AddHeld c.in-Some.amount) rising w x
+          c.climb_level-refused.result.0 c.climb_level-refused.result.1 e (subst (IsInTree count) c.in-Some.is i.inside);
       going = going_on c.args.at w x full c.keep_first.new.full c.loop-next.next c.climb_level-refused.result.1 one i.going;
       went = goes_on_then c.args.at c.args.token.now.me.0 w x c.args.full full c.keep_first.new.full c.args.next c.loop-next.next
           c.climb_level-refused.result.1 i.went one;

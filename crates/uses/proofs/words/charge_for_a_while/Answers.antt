@@ -24,7 +24,7 @@ returns-clause-given_back c =
       charged = c.in_ok-seat.ensures.charged;
       spent = c.charge.ensures.spent.0;
       shown = c.in_ok-seat.ensures.chunk.3;
-      released = subst (λ (size : ℕ). HasDischarged start.tree at size seat.history bare.history) same c.discharge.ensures.released;
+      released = subst (λ (size : ℕ). HasDischarged at size seat.history bare.history) same c.discharge.ensures.released;
       taken_in = subst (λ (size : ℕ). TakesIn (ForgetChunk size) between.history bare.history c.retire.new.pass.history)
           (c.discharge.ensures.chunk.2 ∙ same) c.retire.ensures.history;
       kept = c.retire.ensures.pass.1;

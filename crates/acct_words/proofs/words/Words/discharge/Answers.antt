@@ -1,13 +1,8 @@
-use Rattle.std.proofs.Common.{ap, ◌∙◌, sym, subst, ◌<◌, List, length}
+use Rattle.std.proofs.Common.{ap, ◌∙◌, sym, subst}
 use Rattle.std.specs.Prelude.{IsTrue}
-use Rattle.acct_words.specs.Tokens.{AccountsTable, ChunkToken, is_charged, without}
-use Rattle.acct_words.specs.declared.fixed.Fixed.{Fixed}
+use Rattle.acct_words.specs.Tokens.{ChunkToken, is_charged, without}
 use Rattle.acct_words.proofs.TokenLemmas.{can_turn_back, left_charged, left_one}
 use Rattle.acct_words.proofs.words.Words.discharge.Goals as goal
-
-pub release-requires-clause-level : goal.release-requires-clause-level
-release-requires-clause-level c = subst (λ (l : List Fixed). c.args.at.0 < length l) (sym c.as_slice-nodes.ensures.value)
-    (subst (λ (t : AccountsTable). c.args.at.0 < length t.start.tree) (sym c.self.view_is) c.requires.at)
 
 pub release-requires-clause-charge : goal.release-requires-clause-charge
 release-requires-clause-charge c = can_turn_back c.args.at.0 c.seat.inside.token.me c.seat.inside.number c.seat.inside.size c.seat.invariant

@@ -7,10 +7,10 @@ use Rattle.acct_words.proofs.words.Words.force.Goals as goal
 pub returns-clause-forced : goal.returns-clause-forced
 returns-clause-forced c =
     let f = c.force.ensures.forced in
-    subst (λ (s : ChunkToken). HasForced c.args.self.now.start.tree c.args.at.0 s.size c.args.seat.now.history
+    subst (λ (s : ChunkToken). HasForced c.args.at.0 s.size c.args.seat.now.history
     (history_of c.force.new.token.me.0) c.is_none.result) c.seat.view_is
-    (of_chunk (λ tree old. HasForced tree c.args.at.0 c.seat.inside.size old (history_of c.force.new.token.me.0) c.is_none.result)
-    c.seat.inside.token.table_id c.seat.inside.token.me.0 c.seat.inside.number c.seat.inside.size c.args.seat.now c.args.self.now
-    c.seat.view_is c.requires.table
+    (of_chunk (λ old. HasForced c.args.at.0 c.seat.inside.size old (history_of c.force.new.token.me.0) c.is_none.result)
+    c.seat.inside.token.table_id c.seat.inside.token.me.0 c.seat.inside.number c.seat.inside.size c.args.seat.now
+    c.seat.view_is
     (forced_history c.args.at.0 c.seat.inside.size c.seat.inside.token.me.0 c.force.new.token.me.0 c.force.result c.is_none.result f.0 f.1
     f.2 (none_is c.force.result c.is_none.result c.is_none.ensures)))
