@@ -18,7 +18,7 @@ use Rattle.acct_core.proofs.FixedTreeLemmas.{held_law}
 use Rattle.acct_words.specs.Entries.{StepKind, Entry, size_begun, size_forgotten, reached, draw_count, begun, drew}
 use Rattle.acct_words.specs.Views.{Start, Chunk, View}
 use Rattle.acct_words.specs.declared.rule.Said.{Said}
-use Rattle.acct_words.specs.Places.{number_word, held_word}
+use Rattle.acct_words.specs.Places.{number_word, held_word, peak_word}
 use Rattle.acct_words.specs.Bodies.{of_view, total, made, bytes_left, turns_left, charging, chunk_sizes, numbered}
 use Rattle.acct_words.specs.Rows.{claims_of, rows_of, shown}
 use Rattle.acct_words.specs.Rule.{reservations, IsGoodChunk, IsGoodView, IsKnown, IsSoundTable}
@@ -27,7 +27,7 @@ use Rattle.acct_words.proofs.ViewLemmas.{total_set}
 use Rattle.acct_words.proofs.RowLemmas.{fixed_in-held, limits_of}
 use Rattle.acct_words.proofs.ClaimLemmas.{claims_of-sum}
 use Rattle.acct_words.proofs.AccountLemmas.{held_bounded, row_found, row_open}
-use Rattle.acct_words.proofs.KeptLemmas.{step_kept}
+use Rattle.acct_words.proofs.KeptLemmas.{step_kept, no_peak}
 
 -- the size of the request that a claim is at
 abbrev pub its_size : Claim → ℕ
@@ -131,6 +131,9 @@ module _ (start : Start) (s : State Said View) (homes : List (option.Option Said
           fresh = λ j ne. draws_no_number j;
           good = c.good;
           known = c.known;
+          peak = λ j h. (let o = get_or-set_other s.words (held_word m) (peak_word j) (n + amount) 0 (λ q. omega arith) in
+              let z = no_peak j (length k.history) (held_word m) n act (λ q. omega arith) in omega arith);
+          peak_bounded = λ j h. (let z = no_peak j (length k.history) (held_word m) n act (λ q. omega arith) in omega arith);
         }))
 
 -- a held word is small

@@ -1,20 +1,21 @@
 -- What the calls owe at their steps.
-use Rattle.std.proofs.Common.{◌≡◌, ℕ, ◌+◌, ◌%◌, ◌^◌, ◌<◌, ◌≤◌, ◌-◌, length, eqb, sym, subst}
+use Rattle.std.proofs.Common.{◌≡◌, ℕ, ◌+◌, ◌%◌, ◌^◌, ◌<◌, ◌≤◌, ◌-◌, max, length, eqb, sym, subst}
 use Rattle.mem_num.specs.declared.bounds.TheConstants.{MAX_RESERVATION}
 use mathlib.Core.Option.{none, some}
 use prog.Atomic.{either}
 use Rattle.atomic_table.specs.Table.{Me, Allows, step}
 use Rattle.acct_words.specs.Views.{Start, View}
 use Rattle.acct_words.specs.declared.rule.Said.{Said}
-use Rattle.acct_words.specs.Places.{number_word, held_word}
+use Rattle.acct_words.specs.Places.{number_word, held_word, peak_word}
 use Rattle.acct_words.specs.Bodies.{nothing}
 use Rattle.acct_words.specs.Rule.{IsSoundTable}
-use Rattle.acct_words.specs.Plays.{Draws, Begins, Forces, Rises, Reads, Looks, Parts, Turns, Falls, Forgets, Counts, Pays}
+use Rattle.acct_words.specs.Plays.{HasReached, Draws, Begins, Forces, Rises, Reads, ReadsPeak, Raises, Looks, Parts, Turns, Falls, Forgets, Counts, Pays}
 use Rattle.acct_words.specs.Calls.{HasChunk, HasEmptyChunk, HasRoom, GoesUp, TurnsBack, GoesDown}
 use Rattle.acct_words.proofs.StepLemmas.{begins_allowed, rises_allowed}
 use Rattle.acct_words.proofs.BudgetLemmas.{counts_allowed, pays_allowed}
 use Rattle.acct_words.proofs.ForceLemmas.{forces_allowed}
 use Rattle.acct_words.proofs.HeldLemmas.{looks_allowed}
+use Rattle.acct_words.proofs.PeakLemmas.{peak_allowed, raise_allowed}
 use Rattle.acct_words.proofs.FallLemmas.{falls_allowed, turns_allowed, forgets_allowed}
 use Rattle.acct_words.proofs.LoadLemmas.{draws_allowed, reads_allowed, parts_allowed}
 
@@ -45,6 +46,20 @@ module _ (start : Start) (slots id : ℕ) (me : Me Said View) (same : me.0.start
   pub read_owes : (i : ℕ) → Allows (IsSoundTable start) slots id me i (λ n. n) (Reads (step slots i 0 0 none) me)
   read_owes i = subst (λ (x : Start). Allows (IsSoundTable x) slots id me i (λ n. n) (Reads (step slots i 0 0 none) me)) same
       (reads_allowed slots id i me)
+
+  -- the reading of a peak
+  pub peak_owes : (m : ℕ) → m < length start.tree → Allows (IsSoundTable start) slots id me (peak_word m) (λ n. n)
+      (ReadsPeak (step slots (peak_word m) 0 0 none) me)
+  peak_owes m there = subst (λ (x : Start). Allows (IsSoundTable x) slots id me (peak_word m) (λ n. n)
+      (ReadsPeak (step slots (peak_word m) 0 0 none) me)) same
+      (peak_allowed slots id me m (subst (λ (x : Start). m < length x.tree) (sym same) there))
+
+  -- the raising of a peak
+  pub raise_owes : (m to : ℕ) → m < length start.tree → HasReached to me.0 →
+      Allows (IsSoundTable start) slots id me (peak_word m) (λ n. max n to) (Raises (step slots (peak_word m) to 0 none) me)
+  raise_owes m to there reaches = subst (λ (x : Start). Allows (IsSoundTable x) slots id me (peak_word m) (λ n. max n to)
+      (Raises (step slots (peak_word m) to 0 none) me)) same
+      (raise_allowed slots id me m to (subst (λ (x : Start). m < length x.tree) (sym same) there) reaches)
 
   -- the reading of a held number
   pub look_owes : (m : ℕ) → m < length start.tree → Allows (IsSoundTable start) slots id me (held_word m) (λ n. n)

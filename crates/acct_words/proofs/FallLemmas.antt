@@ -18,7 +18,7 @@ use Rattle.acct_words.specs.Entries.{Entry}
 use Rattle.acct_words.specs.declared.fixed.Fixed.{Fixed}
 use Rattle.acct_words.specs.Views.{Start, Chunk, View}
 use Rattle.acct_words.specs.declared.rule.Said.{Said}
-use Rattle.acct_words.specs.Places.{number_word, held_word, limit_word}
+use Rattle.acct_words.specs.Places.{number_word, held_word, limit_word, peak_word}
 use Rattle.acct_words.specs.Bodies.{of_view, made, numbered, chunk_sizes, bytes_left, turns_left}
 use Rattle.acct_words.specs.Rows.{node, charges_of, rows_of}
 use Rattle.acct_words.specs.Moves.{found_row, fallen, turned, behind, to_front, charged_as, first_chunk, falling_charges, turning_charges}
@@ -32,7 +32,7 @@ use Rattle.acct_core.proofs.SameClaimsLemmas.{same_all, same_from, same_self, sa
 use Rattle.acct_words.proofs.ClaimLemmas.{its_charges, others}
 use Rattle.acct_words.proofs.RowLemmas.{fixed_in-held, limits_of}
 use Rattle.acct_words.proofs.AccountLemmas.{claims_out, fall_moves, falls_there, falls_covered}
-use Rattle.acct_words.proofs.KeptLemmas.{step_kept, good_longer, known_more}
+use Rattle.acct_words.proofs.KeptLemmas.{step_kept, good_longer, known_more, no_peak}
 use Rattle.acct_words.proofs.BoundLemmas.{held_small}
 use Rattle.acct_words.proofs.StepLemmas.{steps_more, first_charges, at_level, comes_after}
 use Rattle.acct_words.proofs.LoadLemmas.{IsLoad, quiet_forget, load_kept, known_after}
@@ -173,6 +173,10 @@ module _ (start : Start) (s : State Said View) (homes : List (option.Option Said
             ));
         known = subst (λ (y : View). All (IsKnown start) y.known) (sym view)
             (known_more start m v.known fall_there (k.known id v at));
+        peak = λ j h. (let o = get_or-set_other s.words (held_word m) (peak_word j) (found - amount) 0 (λ q. omega arith) in
+            let z = no_peak j (length k.history) (held_word m) found (SubtractHeld amount) (λ q. omega arith) in omega arith);
+        peak_bounded = λ j h. (let z = no_peak j (length k.history) (held_word m) found (SubtractHeld amount) (λ q. omega arith) in
+            omega arith);
       }))
     where
       zeros : (b : Bool) → ◌≡◌ {A = ℕ} (cond b 0 0) 0

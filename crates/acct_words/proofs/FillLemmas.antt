@@ -12,7 +12,7 @@ use Rattle.acct_core.specs.declared.row.Row.{Row}
 use Rattle.acct_core.specs.Balance.{child_count}
 use Rattle.acct_core.specs.Rows.{is_at}
 use Rattle.acct_words.specs.declared.fixed.Fixed.{Fixed}
-use Rattle.acct_words.specs.Places.{number_word, held_word, limit_word, reservation_word, parent_word}
+use Rattle.acct_words.specs.Places.{number_word, held_word, limit_word, peak_word, reservation_word, parent_word}
 use Rattle.acct_words.specs.Rows.{no_node, node, parent_of, row_of, rows_of, fixed_in, HasParentsBefore}
 use Rattle.acct_words.specs.Rule.{reservations}
 use Rattle.acct_words.specs.Openings.{ReservesWithinLimit, ComeAfterParents, IsFixedTree, AreOpeningWords, held_below, AreFilledFrom}
@@ -213,6 +213,7 @@ module _ (tree : List Fixed) (t : IsFixedTree tree) (n : ℕ) (there : n < lengt
         let d : cond (is_at (parent_of n (node tree n)) m) (counted_at_parent (node tree n).reservation
         (slice_index limited (held_word n))) 0 ≡ 0 = rw zero_is refl in omega arith);
     fixed = fixed_limited;
+    peaks = λ m. limited-other (peak_word m) (λ e. omega arith) (λ e. omega arith) (λ e. omega arith) ∙ filled.peaks m;
     reserved = rw zero_is (omega arith);
   }
 
@@ -281,6 +282,8 @@ module _ (tree : List Fixed) (t : IsFixedTree tree) (n : ℕ) (there : n < lengt
           ∙ limited-other number_word (λ e. omega arith) (λ e. omega arith) (λ e. omega arith) ∙ filled.number;
       held = λ m l. ⊎_elim (at_m m l) (off_m m l) (cases_eq m p);
       fixed = λ m h l. fixed_in-held m p (slice_index words (held_word p) + counted) limited ∙ fixed_limited m h l;
+      peaks = λ m. get_or-set_other limited (held_word p) (peak_word m) (slice_index words (held_word p) + counted) 0 (λ e. omega arith)
+          ∙ limited-other (peak_word m) (λ e. omega arith) (λ e. omega arith) (λ e. omega arith) ∙ filled.peaks m;
       reserved = (
           let h = parent_before in
           let a = below-add limited p counted n h parent_there in
@@ -333,6 +336,8 @@ filled_none tree words e = record {
   held = λ n l. zeros n ∙ sym (ap (λ (t : List Fixed). sum_by (child_count n) (rows_of t (length tree) (set words 16 1)))
       (drop-length tree));
   fixed = λ n h l. absurd (omega arith);
+  peaks = λ n. get_or-set_other words 16 (peak_word n) 1 0 (λ q. omega arith) ∙ ap (λ (w : List ℕ). slice_index w (peak_word n)) e
+      ∙ zeros_at (16 * length tree + 32) (peak_word n);
   reserved = (let z = none (length tree) in omega arith);
 }
   where
@@ -349,4 +354,10 @@ filled_none tree words e = record {
 
 -- words that are filled from the first allocator on are those of the opening
 pub filled_all : (tree : List Fixed) (words : List ℕ) → AreFilledFrom tree 0 words → AreOpeningWords tree words
-filled_all tree words f = record { wide = f.wide; number = f.number; held = f.held; fixed = λ n l. f.fixed n (omega arith) l }
+filled_all tree words f = record {
+  wide = f.wide;
+  number = f.number;
+  held = f.held;
+  fixed = λ n l. f.fixed n (omega arith) l;
+  peaks = f.peaks;
+}

@@ -1,6 +1,6 @@
 -- The rule after a step that stands in the history.
 use Rattle.std.proofs.Common.{◌≡◌, ℕ, ◌+◌, ◌*◌, ◌<◌, ◌≤◌, ◌≢◌, List, [], ◌∷◌, ◌++◌, length, set, slice_index, refl, sym, ap, ◌∙◌, subst, arith, Some, ne_eqb}
-use Rattle.std.proofs.Common.{sum_by, sum, All, ⊎_elim, length-set, eqb, eq-eqb, Bool, true, false, cond}
+use Rattle.std.proofs.Common.{max, sum_by, sum, All, ⊎_elim, length-set, eqb, eq-eqb, Bool, true, false, cond}
 use mathlib.Core.Option as option
 use mathlib.Core.Option.{some}
 use lib.ListN.{get_elem?}
@@ -11,16 +11,16 @@ use Rattle.std.proofs.lemmas.List.Sums.{sum-map, sum_by_push}
 use Rattle.atomic_table.specs.Table.{State}
 use Rattle.atomic_table.proofs.Lists.{at_set, at_longer}
 use Rattle.acct_core.specs.Lawful.{IsLawfulFixedTree}
-use Rattle.acct_words.specs.Entries.{StepKind, Entry, size_begun, size_forgotten, reached, draw_count, begun, forgotten, drawn, drew}
+use Rattle.acct_words.specs.Entries.{StepKind, Entry, size_begun, size_forgotten, reached, draw_count, begun, forgotten, drawn, drew, raised_to, peak_shown}
 use Rattle.acct_words.specs.Entries.{InHistory}
-use Rattle.acct_words.specs.Entries.StepKind.{LoadWord, DrawChunkNumber, BeginCharge, AddHeld, SubtractHeld, ForgetChunk}
+use Rattle.acct_words.specs.Entries.StepKind.{LoadWord, DrawChunkNumber, BeginCharge, AddHeld, SubtractHeld, ForgetChunk, RaisePeak}
 use Rattle.acct_words.specs.declared.fixed.Fixed.{Fixed}
 use Rattle.acct_words.specs.Views.{Start, Known, Body, View}
 use Rattle.acct_words.specs.declared.rule.Said.{Said}
-use Rattle.acct_words.specs.Places.{number_word}
+use Rattle.acct_words.specs.Places.{number_word, peak_word}
 use Rattle.acct_words.specs.Bodies.{nothing, plus, of_view, made, bytes_left, turns_left, chunk_sizes, numbered}
 use Rattle.acct_words.specs.Rows.{node, fixed_in, shown}
-use Rattle.acct_words.specs.Rule.{reservations, IsBounded, IsNumbered, IsHistory, IsGoodChunk, IsGoodBody, IsGoodView, IsKnown, IsSoundTable}
+use Rattle.acct_words.specs.Rule.{reservations, IsBounded, IsNumbered, IsHistory, IsGoodChunk, IsGoodBody, IsGoodView, IsKnown, KeepsPeaks, IsSoundTable}
 use Rattle.acct_words.specs.Plays.{entry, known_at}
 use Rattle.acct_words.proofs.ViewLemmas.{total_set}
 
@@ -90,6 +90,10 @@ module _ (start : Start) (s : State Said View) (homes : List (option.Option Said
     pub fresh : (m : ℕ) → m ≢ slice_index s.words number_word → drew m e ≡ 0
     pub good : IsGoodView history w
     pub known : All (IsKnown start) w.known
+    pub peak : (m : ℕ) → m < length start.tree →
+        slice_index (set s.words i new) (peak_word m) ≡ max (slice_index s.words (peak_word m)) (peak_shown m e)
+    pub peak_bounded : (m : ℕ) → m < length start.tree →
+        peak_shown m e ≤ 2 * (sum_by begun k.history + size_begun act) + sum (reservations start.tree)
 
   module _ (c : IsStep) where
     -- at most one entry draws a number
@@ -104,6 +108,7 @@ module _ (start : Start) (s : State Said View) (homes : List (option.Option Said
         le true (AddHeld x) = omega arith
         le true (SubtractHeld x) = omega arith
         le true (ForgetChunk x) = omega arith
+        le true (RaisePeak x) = omega arith
 
     -- a draw finds the next number
     draws_next : draw_count act ≡ 1 → n ≡ slice_index s.words number_word
@@ -136,6 +141,18 @@ module _ (start : Start) (s : State Said View) (homes : List (option.Option Said
           omega arith)
           (λ (ne : ◌≡◌ {A = ℕ} m (slice_index s.words number_word) → ⊥). let z = c.fresh m ne in omega arith)
           (cases_eq m (slice_index s.words number_word)));
+    }
+
+    -- no peak falls, and none goes past the worst case
+    peaks_kept : KeepsPeaks start history after.words
+    peaks_kept = record {
+      reached = λ m h. All-push (λ (x : Entry). peak_shown m x ≤ slice_index (set s.words i new) (peak_word m)) k.history e
+          (All-weaker (λ (x : Entry). peak_shown m x ≤ slice_index s.words (peak_word m))
+          (λ (x : Entry). peak_shown m x ≤ slice_index (set s.words i new) (peak_word m)) (λ x q. (let a = c.peak m h in omega arith))
+          k.history (k.peaks.reached m h))
+          (let a = c.peak m h in omega arith);
+      bounded = λ m h. (let a = c.peak m h in let b = c.peak_bounded m h in let p = k.peaks.bounded m h in
+          let x = sum-map begun k.history in let y = sum-map begun history in let z = sum_by_push begun k.history e in omega arith);
     }
 
     -- and the rule is kept
@@ -178,6 +195,7 @@ module _ (start : Start) (s : State Said View) (homes : List (option.Option Said
             k.numbers.fresh m (omega arith) in omega arith)
             (cases_eq m (slice_index s.words number_word)));
       };
+      peaks = peaks_kept;
     }
       where
         -- where the next number is still m, the step drew none
@@ -209,3 +227,15 @@ known_is start level fixed (q ∷ known) h e = ⊎_elim
     (λ (ne : q.level ≢ level). known_is start level fixed known (All-tail (IsKnown start) q known h)
     (subst (λ (b : Bool). cond b (Some q.fixed) (known_at level known) ≡ Some fixed) (ne_eqb q.level level ne) e))
     (cases_eq q.level level)
+
+-- a step on a word that isn't a peak shows nothing of it
+pub no_peak : (m name w found : ℕ) (act : StepKind) → w ≢ peak_word m → peak_shown m (entry name w act found) ≡ 0
+no_peak m name w found act ne = rw (ne_eqb w (peak_word m) ne) refl
+
+-- a load shows what its word has
+pub peak_loaded : (words : List ℕ) (m name i : ℕ) (act : StepKind) → raised_to act ≡ 0 →
+    peak_shown m (entry name i act (slice_index words i)) ≤ slice_index words (peak_word m)
+peak_loaded words m name i act none = ⊎_elim
+    (λ (same : i ≡ peak_word m). rw (eq-eqb i (peak_word m) same) (let a = ap (slice_index words) same in omega arith))
+    (λ (ne : i ≢ peak_word m). let z = no_peak m name i (slice_index words i) act ne in omega arith)
+    (cases_eq i (peak_word m))

@@ -8,6 +8,7 @@ pub mod SplitLemmas
 pub mod BoundLemmas
 pub mod StepLemmas
 pub mod LoadLemmas
+pub mod PeakLemmas
 pub mod FallLemmas
 pub mod ForceLemmas
 pub mod HeldLemmas
@@ -21,3 +22,4 @@ pub mod RefusalLemmas
 pub mod BudgetLemmas
 pub mod TokenLemmas
 pub mod ReturnLemmas
+pub mod ReachLemmas

@@ -1,22 +1,22 @@
 -- Loads, and the drawing of a number, which change no account.
 use Rattle.std.proofs.Common.{◌≡◌, ℕ, ◌+◌, ◌%◌, ◌^◌, ◌<◌, ◌≤◌, Bool, true, false, cond, ◌==◌, List, [], ◌∷◌, ◌++◌, length, set}
-use Rattle.std.proofs.Common.{slice_index, refl, sym, ap, ◌∙◌, subst, arith, sum_by, All, Some, mod-eq_of_lt, ne_eqb, get_or-set_same}
+use Rattle.std.proofs.Common.{slice_index, refl, sym, ap, ◌∙◌, subst, arith, sum_by, All, Some, mod-eq_of_lt, ne_eqb, get_or-set_same, get_or-set_other}
 use mathlib.Core.Option as option
 use mathlib.Core.Option.{some, none}
 use lib.ListN.{get_elem?}
 use Rattle.std.proofs.lemmas.List.{set-get_or}
 use Rattle.std.proofs.lemmas.List.Elements.{All-head, All-tail, All-nil, All-cons, All-append}
-use Rattle.std.proofs.lemmas.List.Sums.{sum_by-append, sum_by-cons, sum_by_push}
+use Rattle.std.proofs.lemmas.List.Sums.{sum-map, sum_by-append, sum_by-cons, sum_by_push}
 use Rattle.atomic_table.specs.Table.{State, Me, Allows, step, keeps}
 use Rattle.acct_core.specs.Claims.{Claim, account}
 use Rattle.acct_core.specs.Lawful.{IsLawfulFixedTree}
 use Rattle.acct_core.specs.Phases.{size_of}
 use Rattle.acct_words.specs.Entries.StepKind.{LoadWord, DrawChunkNumber, ForgetChunk}
-use Rattle.acct_words.specs.Entries.{StepKind, Entry, InHistory, size_begun, size_forgotten, reached, draw_count}
+use Rattle.acct_words.specs.Entries.{StepKind, Entry, InHistory, size_begun, size_forgotten, reached, raised_to, draw_count, begun}
 use Rattle.acct_words.specs.Views.{Start, Chunk, Body, View}
 use Rattle.acct_words.specs.declared.fixed.Fixed.{Fixed}
 use Rattle.acct_words.specs.declared.rule.Said.{Said}
-use Rattle.acct_words.specs.Places.{number_word}
+use Rattle.acct_words.specs.Places.{number_word, peak_word}
 use Rattle.acct_words.specs.Bodies.{nothing, of_view, made, numbered, chunk_sizes, bytes_left, turns_left}
 use Rattle.acct_words.specs.Rows.{charges_of, claims_of, rows_of, fixed_in}
 use Rattle.acct_words.specs.Moves.{drawing, reading, other_chunks, one_chunk}
@@ -28,7 +28,7 @@ use Rattle.acct_core.specs.SameClaims.{SameClaims}
 use Rattle.acct_core.proofs.SameClaimsLemmas.{same_from, same_self, same_then, same_path, All-left, All-right}
 use Rattle.acct_words.proofs.ClaimLemmas.{its_charges}
 use Rattle.acct_words.proofs.AccountLemmas.{claims_move}
-use Rattle.acct_words.proofs.KeptLemmas.{IsStep, step_legal, step_kept, good_longer, known_is}
+use Rattle.acct_words.proofs.KeptLemmas.{IsStep, step_legal, step_kept, good_longer, known_is, no_peak, peak_loaded}
 use Rattle.acct_words.proofs.StepLemmas.{steps_more}
 
 -- a step that leaves its word as it is, begins nothing and draws no number
@@ -36,14 +36,15 @@ pub record IsQuiet (act : StepKind) : Type 0 where
   pub begins : size_begun act ≡ 0
   pub draws : draw_count act ≡ 0
   pub reaches : (n : ℕ) → reached act n ≡ 0
+  pub raises : raised_to act ≡ 0
 
 -- a load is one
 pub quiet_load : IsQuiet LoadWord
-quiet_load = record { begins = refl; draws = refl; reaches = λ n. refl }
+quiet_load = record { begins = refl; draws = refl; reaches = λ n. refl; raises = refl }
 
 -- and so is the forgetting of a chunk
 pub quiet_forget : (size : ℕ) → IsQuiet (ForgetChunk size)
-quiet_forget size = record { begins = refl; draws = refl; reaches = λ n. refl }
+quiet_forget size = record { begins = refl; draws = refl; reaches = λ n. refl; raises = refl }
 
 -- such a step, which may change the token's own view
 module _ (start : Start) (s : State Said View) (homes : List (option.Option Said)) (id : ℕ) (v w : View) (k : IsSoundTable start s)
@@ -79,6 +80,11 @@ module _ (start : Start) (s : State Said View) (homes : List (option.Option Said
     fresh = λ m ne. zero_cond (slice_index s.words i == m) (draw_count act) c.quiet.draws;
     good = c.good;
     known = c.known;
+    peak = λ m h. (let q : slice_index (set s.words i (slice_index s.words i)) (peak_word m) ≡ slice_index s.words (peak_word m) =
+        ap (λ (l : List ℕ). slice_index l (peak_word m)) (set-get_or s.words i 0) in
+        let l = peak_loaded s.words m (length k.history) i act c.quiet.raises in omega arith);
+    peak_bounded = λ m h. (let l = peak_loaded s.words m (length k.history) i act c.quiet.raises in let p = k.peaks.bounded m h in
+        let x = sum-map begun k.history in omega arith);
   }
     where
       zero_cond : (b : Bool) (x : ℕ) → x ≡ 0 → cond b x 0 ≡ 0
@@ -249,6 +255,9 @@ draws_allowed slots id me turn s k _ at _ =
         good_longer k.history e me.0.offer old.1,
       ));
       known = k.known id me.0 at;
+      peak = λ m h. (let o = get_or-set_other s.words number_word (peak_word m) (n + 1) 0 (λ q. omega arith) in
+          let z = no_peak m (length k.history) number_word n DrawChunkNumber (λ q. omega arith) in omega arith);
+      peak_bounded = λ m h. (let z = no_peak m (length k.history) number_word n DrawChunkNumber (λ q. omega arith) in omega arith);
     }) in (
       w,
       keeps,

@@ -1,6 +1,6 @@
 -- The rule at the opening.
 use Rattle.std.proofs.Common.{zero, suc, ◌≡◌, ℕ, ◌<◌, ◌≤◌, true, false, List, [], ◌∷◌, length, Some, None, refl, sym, ap, ◌∙◌, subst}
-use Rattle.std.proofs.Common.{arith, All, ⊎_elim}
+use Rattle.std.proofs.Common.{slice_index, arith, All, ⊎_elim}
 use mathlib.Core.Option.{some, some-injective, some-ne-none}
 use lib.ListN.{get_elem?}
 use Rattle.std.proofs.lemmas.List.{get_or_past}
@@ -16,7 +16,8 @@ use Rattle.acct_words.specs.declared.fixed.Fixed.{Fixed}
 use Rattle.acct_words.specs.declared.fixed.Opening.{Opening}
 use Rattle.acct_words.specs.declared.rule.Said.{Said}
 use Rattle.acct_words.specs.Views.{View}
-use Rattle.acct_words.specs.Entries.{InHistory}
+use Rattle.acct_words.specs.Entries.{Entry, InHistory, peak_shown}
+use Rattle.acct_words.specs.Places.{peak_word}
 use Rattle.acct_words.specs.Rows.{node, parent_of, rows_of, HasParentsBefore}
 use Rattle.acct_words.specs.Rule.{start_of, first, IsSoundTable, IsBounded, IsNumbered, IsGoodChunk, IsGoodView, IsKnown}
 use Rattle.acct_words.specs.Openings.{AreOpeningWords, IsFixedTree, IsWithinBudget}
@@ -118,6 +119,10 @@ opening_sound o words t c w = record {
   known = known_first;
   budget = record { bytes = omega arith; turns = omega arith; sizes = omega arith };
   numbers = record { next = w.number; drawn = λ n. omega arith; fresh = λ n h. refl };
+  peaks = record {
+    reached = λ n h. All-nil (λ (x : Entry). peak_shown n x ≤ slice_index words (peak_word n));
+    bounded = λ n h. (let z = w.peaks n in omega arith);
+  };
 }
   where
     good_first : (id : ℕ) (v : View) → get_elem? (first (start_of o) ∷ []) id ≡ some v → IsGoodView [] v

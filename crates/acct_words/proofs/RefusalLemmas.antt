@@ -1,36 +1,21 @@
 -- A refusal stays within the worst case of what was asked for.
-use Rattle.std.proofs.Common.{zero, suc, ◌≡◌, ℕ, ◌+◌, ◌≤◌, Bool, true, false, cond, List, [], ◌∷◌, ◌++◌, map, All, Option, Some, None}
-use Rattle.std.proofs.Common.{sym, ap, subst, arith}
-use mathlib.Core.Option.{some, some-injective, some-ne-none}
-use lib.ListN.{get_elem?}
-use Rattle.std.proofs.lemmas.List.Elements.{All-cons, All-head, All-tail, All-nil, All-push}
+use Rattle.std.proofs.Common.{◌≡◌, ℕ, ◌+◌, ◌≤◌, Bool, true, false, cond, List, [], ◌∷◌, ◌++◌, map, All, Option, Some, None}
+use Rattle.std.proofs.Common.{ap, subst, arith}
+use Rattle.std.proofs.lemmas.List.Elements.{All-head, All-tail, All-nil, All-push}
 use Rattle.mem_num.specs.declared.full.Full.{Full}
 use Rattle.mem_model.specs.WorstCase.{worst_case}
 use Rattle.acct_core.specs.declared.level_step.LevelStep.{LevelStep}
+use Rattle.acct_core.proofs.SameClaimsLemmas.{All-left, All-right}
 use Rattle.acct_core.specs.Phases.{is_past}
 use Rattle.acct_words.specs.Entries.{StepKind, Entry, InHistory, begun, reached}
-use Rattle.acct_words.specs.Entries.StepKind.{LoadWord, DrawChunkNumber, BeginCharge, AddHeld, SubtractHeld, ForgetChunk}
+use Rattle.acct_words.specs.Entries.StepKind.{LoadWord, DrawChunkNumber, BeginCharge, AddHeld, SubtractHeld, ForgetChunk, RaisePeak}
 use Rattle.acct_words.specs.declared.fixed.Fixed.{Fixed}
 use Rattle.acct_words.specs.Views.{View}
 use Rattle.acct_words.specs.Rule.{reservations, IsBounded, KnowsHistory, KnowsWorstCase}
 use Rattle.acct_words.specs.Climbs.{Climbs, amount_of, level_step, refusal_of, full_at}
 use Rattle.acct_words.specs.Climbs.Climbs.{begins, adds}
 use Rattle.acct_words.specs.Charges.{draw_entry, forget_entry, ViewRefuses}
-
--- what holds of all holds of the one at a place
-all_there : {A : Type 0} (P : A → Type 0) (xs : List A) (i : ℕ) (x : A) → All P xs → get_elem? xs i ≡ some x → P x
-all_there P [] i x h at = absurd (some-ne-none x (sym at))
-all_there P (y ∷ ys) zero x h at = subst P (some-injective y x at) (All-head P y ys h)
-all_there P (y ∷ ys) (suc i) x h at = all_there P ys i x (All-tail P y ys h) at
-
--- parts of a list
-All-left : {A : Type 0} (P : A → Type 0) (xs ys : List A) → All P (xs ++ ys) → All P xs
-All-left P [] ys h = All-nil P
-All-left P (x ∷ xs) ys h = All-cons P x xs (All-head P x (xs ++ ys) h) (All-left P xs ys (All-tail P x (xs ++ ys) h))
-
-All-right : {A : Type 0} (P : A → Type 0) (xs ys : List A) → All P (xs ++ ys) → All P ys
-All-right P [] ys h = h
-All-right P (x ∷ xs) ys h = All-right P xs ys (All-tail P x (xs ++ ys) h)
+use Rattle.acct_words.proofs.ViewLemmas.{all_there}
 
 -- what an addition leads to
 reached_is : (act : StepKind) (found amount : ℕ) → amount_of act ≡ Some amount → reached act found ≡ found + amount
@@ -48,22 +33,23 @@ reached_is LoadWord found amount e = absurd cc
 reached_is DrawChunkNumber found amount e = absurd cc
 reached_is (SubtractHeld size) found amount e = absurd cc
 reached_is (ForgetChunk size) found amount e = absurd cc
+reached_is (RaisePeak to) found amount e = absurd cc
 
 module _ (tree : List Fixed) (history : List Entry) (bounded : All (IsBounded tree history) history) where
   abbrev IsWithin : LevelStep → Type 0
   IsWithin step = step.old + step.amount ≤ worst_case (map begun history) (reservations tree)
 
   -- each step of a way up is within the worst case
-  steps_within : {at size : ℕ} {entries : List Entry} {steps : List LevelStep} {next : Option (ℕ × ℕ)} →
-      Climbs at size entries steps next → All (InHistory history) entries → All IsWithin steps
+  steps_within : {at size : ℕ} {forced : Bool} {entries : List Entry} {steps : List LevelStep} {next : Option (ℕ × ℕ)} →
+      Climbs at size forced entries steps next → All (InHistory history) entries → All IsWithin steps
   steps_within begins h = All-nil IsWithin
-  steps_within (adds {entries = entries} {steps = steps} {level = level} {amount = amount} fixed addition limit reservation parent climb is)
-      h =
-      let more : List Entry = addition ∷ limit ∷ reservation ∷ parent ∷ [] in
+  steps_within (adds {entries = entries} {steps = steps} {level = level} {amount = amount} fixed addition limit reservation parent raise
+      climb is due) h =
+      let more : List Entry = addition ∷ limit ∷ reservation ∷ parent ∷ raise in
       All-push IsWithin steps (level_step level fixed amount addition.found)
       (steps_within climb (All-left (InHistory history) entries more h))
       (let a = all_there (IsBounded tree history) history addition.name addition bounded (All-head (InHistory history) addition
-      (limit ∷ reservation ∷ parent ∷ []) (All-right (InHistory history) entries more h)) in
+      (limit ∷ reservation ∷ parent ∷ raise) (All-right (InHistory history) entries more h)) in
       let r = reached_is addition.kind addition.found amount is.added in omega arith)
 
   -- and so is the refusal

@@ -1,13 +1,14 @@
 -- What charges that come back make of a token's accounts.
-use Rattle.std.proofs.Common.{◌≡◌, ℕ, ◌+◌, List, [], ◌∷◌, ◌++◌, refl, ap, arith, sum_by, Option, Some}
+use Rattle.std.proofs.Common.{◌≡◌, ℕ, ◌+◌, Bool, List, [], ◌∷◌, ◌++◌, refl, ap, arith, sum_by, Option, Some}
 use Rattle.std.proofs.lemmas.List.Sums.{sum_by-append, sum_by-cons}
 use Rattle.mem_num.specs.declared.full.Full.{Full}
 use Rattle.acct_core.specs.declared.level_step.LevelStep.{LevelStep}
-use Rattle.acct_words.specs.Entries.StepKind.{LoadWord, DrawChunkNumber, BeginCharge, AddHeld, SubtractHeld, ForgetChunk}
+use Rattle.acct_words.specs.Entries.StepKind.{LoadWord, DrawChunkNumber, BeginCharge, AddHeld, SubtractHeld, ForgetChunk, RaisePeak}
 use Rattle.acct_words.specs.Entries.{StepKind, Entry, size_begun, size_forgotten, begun, forgotten}
 use Rattle.acct_words.specs.Views.{Start}
-use Rattle.acct_words.specs.Climbs.{Climbs, amount_of}
+use Rattle.acct_words.specs.Climbs.{Climbs, IsRaise, amount_of}
 use Rattle.acct_words.specs.Climbs.Climbs.{begins, adds}
+use Rattle.acct_words.specs.Climbs.IsRaise.{none, still, raised}
 use Rattle.acct_words.specs.Falls.{Descends}
 use Rattle.acct_words.specs.Falls.Descends.{starts, subtracts}
 use Rattle.acct_words.specs.Tokens.{CallerToken}
@@ -22,27 +23,38 @@ adds_forget (BeginCharge size) amount e = refl
 adds_forget (AddHeld added) amount e = refl
 adds_forget (SubtractHeld taken) amount e = absurd cc
 adds_forget (ForgetChunk size) amount e = absurd cc
+adds_forget (RaisePeak to) amount e = absurd cc
+
+-- nor does the raising of a peak
+raise_forgets : {level to : ℕ} {due : Bool} {raise : List Entry} → IsRaise level to due raise → sum_by forgotten raise ≡ 0
+raise_forgets none = refl
+raise_forgets (still load is reached) = let a = sum_by-cons forgotten load [] in let b = ap size_forgotten is.kind in omega arith
+raise_forgets (raised load raise is word kind) =
+    let a = sum_by-cons forgotten load (raise ∷ []) in let b = sum_by-cons forgotten raise [] in
+    let c = ap size_forgotten is.kind in let d = ap size_forgotten kind in omega arith
 
 -- nor does a way up
-pub climb_forgets : {at size : ℕ} {entries : List Entry} {steps : List LevelStep} {next : Option (ℕ × ℕ)} →
-    Climbs at size entries steps next → sum_by forgotten entries ≡ 0
+pub climb_forgets : {at size : ℕ} {forced : Bool} {entries : List Entry} {steps : List LevelStep} {next : Option (ℕ × ℕ)} →
+    Climbs at size forced entries steps next → sum_by forgotten entries ≡ 0
 climb_forgets begins = refl
-climb_forgets (adds {entries = entries} {amount = amount} fixed addition limit reservation parent climb is) =
+climb_forgets (adds {entries = entries} {amount = amount} fixed addition limit reservation parent raise climb is due) =
     let a = climb_forgets climb in
-    let b = sum_by-append forgotten entries (addition ∷ limit ∷ reservation ∷ parent ∷ []) in
-    let c = sum_by-cons forgotten addition (limit ∷ reservation ∷ parent ∷ []) in
-    let d = three_loads forgotten limit reservation parent in
+    let b = sum_by-append forgotten entries (addition ∷ limit ∷ reservation ∷ parent ∷ raise) in
+    let c = four_steps forgotten addition limit reservation parent raise in
     let e = adds_forget addition.kind amount is.added in
     let f = ap size_forgotten is.limit_is.kind in
     let g = ap size_forgotten is.reservation_is.kind in
     let h = ap size_forgotten is.parent_is.kind in
+    let i = raise_forgets due in
     omega arith
   where
-    three_loads : (weight : Entry → ℕ) (x y z : Entry) → sum_by weight (x ∷ y ∷ z ∷ []) ≡ weight x + (weight y + weight z)
-    three_loads weight x y z =
-        let a = sum_by-cons weight x (y ∷ z ∷ []) in
-        let b = sum_by-cons weight y (z ∷ []) in
-        let c = sum_by-cons weight z [] in omega arith
+    four_steps : (weight : Entry → ℕ) (x y z u : Entry) (rs : List Entry) →
+        sum_by weight (x ∷ y ∷ z ∷ u ∷ rs) ≡ weight x + (weight y + (weight z + (weight u + sum_by weight rs)))
+    four_steps weight x y z u rs =
+        let a = sum_by-cons weight x (y ∷ z ∷ u ∷ rs) in
+        let b = sum_by-cons weight y (z ∷ u ∷ rs) in
+        let c = sum_by-cons weight z (u ∷ rs) in
+        let d = sum_by-cons weight u rs in omega arith
 
 -- a release begins nothing and forgets nothing
 pub release_counts : {at size : ℕ} {entries : List Entry} {next : Option (ℕ × ℕ)} →

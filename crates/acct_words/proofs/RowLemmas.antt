@@ -3,7 +3,7 @@ use Rattle.std.proofs.Common.{zero, suc, ◌≡◌, ℕ, ◌+◌, ◌<◌, ◌�
 use Rattle.std.proofs.Common.{get_or-set_other}
 use Rattle.acct_core.specs.Rows.{row}
 use Rattle.acct_words.specs.declared.fixed.Fixed.{Fixed}
-use Rattle.acct_words.specs.Places.{held_word, limit_word, reservation_word, parent_word}
+use Rattle.acct_words.specs.Places.{held_word, limit_word, peak_word, reservation_word, parent_word}
 use Rattle.acct_words.specs.Rows.{node, row_of, rows_of, fixed_in}
 
 -- there are as many rows as allocators
@@ -66,3 +66,12 @@ fixed_in-held n m x words = fixed_in-other n (held_word m) x words (λ q. omega 
 pub limits_of : (tree : List Fixed) (words : List ℕ) → ((n : ℕ) → n < length tree → fixed_in n words ≡ node tree n) →
     (n : ℕ) → n < length tree → slice_index words (limit_word n) ≡ (node tree n).limit
 limits_of tree words fixed n there = ap (λ (f : Fixed). f.limit) (fixed n there)
+
+-- the rows don't read a peak
+pub rows_of-peak : (tree : List Fixed) (n m x : ℕ) (words : List ℕ) → rows_of tree n (set words (peak_word m) x) ≡ rows_of tree n words
+rows_of-peak [] n m x words = refl
+rows_of-peak (f ∷ tree) n m x words = rw (
+  get_or-set_other words (peak_word m) (held_word n) x 0 (λ e. omega arith),
+  get_or-set_other words (peak_word m) (limit_word n) x 0 (λ e. omega arith),
+  rows_of-peak tree (n + 1) m x words,
+) refl

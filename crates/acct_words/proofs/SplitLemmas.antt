@@ -42,6 +42,10 @@ regrouped start s t k w same all good known = record {
     turns = (let e = same turns_left turns_weigh in let p = k.budget.turns in omega arith);
     sizes = (let e = same chunk_sizes sizes_weigh in let p = k.budget.sizes in omega arith);
   };
+  peaks = record {
+    reached = λ n h. rw w (k.peaks.reached n h);
+    bounded = λ n h. rw w (k.peaks.bounded n h);
+  };
   numbers = record {
     next = rw w k.numbers.next;
     drawn = λ n. (let e = same (numbered n) (numbers_weigh n) in let p = k.numbers.drawn n in omega arith);

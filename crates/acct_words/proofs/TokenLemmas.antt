@@ -1,7 +1,7 @@
 -- What the calls make of tokens, as their callers see them.
-use Rattle.std.proofs.Common.{◌≡◌, ◌≢◌, ℕ, ◌+◌, ◌<◌, ◌≤◌, Bool, true, false, not, cond, ◌||◌, ◌==◌, List, [], ◌∷◌, ◌++◌, map, All, Option}
+use Rattle.std.proofs.Common.{◌≡◌, ◌≢◌, ℕ, ◌+◌, ◌<◌, ◌≤◌, Bool, true, false, cond, ◌||◌, ◌==◌, List, [], ◌∷◌, ◌++◌, map, All, Option}
 use Rattle.std.proofs.Common.{Some, None, refl, sym, ap, ◌∙◌, subst, arith, eq-eqb, ne_eqb, ⊎_elim}
-use Rattle.std.specs.Prelude.{is_none, is_some, IsTrue}
+use Rattle.std.specs.Prelude.{is_none, IsTrue}
 use Rattle.std.proofs.lemmas.Bool.{cases_eq, cases_lt, lt-ltb, le-ltb}
 use Rattle.std.proofs.lemmas.List.{append_assoc, append-nil}
 use Rattle.std.proofs.lemmas.List.Elements.{All-cons, All-head, All-tail, All-nil}
@@ -28,7 +28,8 @@ use Rattle.acct_words.specs.Falls.{IsReleased, rest_of, released}
 use Rattle.acct_words.specs.Charges.{draw_entry, still_entry, ViewCharges, ViewRefuses, forget_entry}
 use Rattle.acct_words.specs.Tokens.{History, CallerToken, ChunkToken, history_of, is_charged, without, charges_in}
 use Rattle.acct_words.specs.Tokens.{charged_in, IsHeldAs, IsChargeOf, HasOneChunk}
-use Rattle.acct_words.specs.CallHistories.{StaysWithinLimit, HasCharged, HasBeenRefused, HasForced, HasDischarged, TakesIn, HasLoadedHeld}
+use Rattle.acct_words.proofs.ClimbLemmas.{refusal_none}
+use Rattle.acct_words.specs.CallHistories.{StaysWithinLimit, HasCharged, HasBeenRefused, HasForced, HasDischarged, TakesIn, HasLoaded}
 
 -- what is shown of a view's history is shown of the caller token that has the view
 pub of_caller : (P : History → Type 0) (id : TableId) (v : View) (budget : Budget) (token : CallerToken) →
@@ -60,16 +61,6 @@ all_within (s ∷ steps) e = ⊎_elim
     by false f = f
     by true f = absurd cc
 
--- there is no refusal where no step went past its limit
-refusal_none : (at : ℕ) (steps : List LevelStep) → is_none (refusal_of at steps) ≡ not (any_past steps)
-refusal_none at [] = refl
-refusal_none at (s ∷ steps) = by (is_past s) (refusal_none at steps)
-  where
-    by : (b : Bool) → is_none (refusal_of at steps) ≡ not (any_past steps) →
-        is_none (cond b (Some (full_at at s)) (refusal_of at steps)) ≡ not (b || any_past steps)
-    by true rest = refl
-    by false rest = rest
-
 -- a refusal's level went past its limit
 pub refusal_past : (at : ℕ) (steps : List LevelStep) (full : Full) → refusal_of at steps ≡ Some full → full.limit < full.held + full.amount
 refusal_past at [] full e = absurd cc
@@ -90,13 +81,6 @@ refusal_past at (s ∷ steps) full e = ⊎_elim
     limit_of : Option Full → ℕ
     limit_of None = 0
     limit_of (Some f) = f.limit
-
--- whether there is none, by whether there is some
-pub none_is : (full : Option Full) (answer : Bool) → is_some full ≡ not answer → answer ≡ is_none full
-none_is None true e = refl
-none_is None false e = absurd cc
-none_is (Some f) true e = absurd cc
-none_is (Some f) false e = refl
 
 -- a charge, as the caller's history shows it
 pub charged_history : (at size : ℕ) (v w : View) (number : ℕ) (new : View) → ViewCharges at size v w number new →
@@ -133,12 +117,12 @@ refused_history at size v w full h = record {
   made = record { own = ap (λ (y : View). y.own.own_steps) h.token; observed = ap (λ (y : View). y.own.observed) h.token };
 }
 
--- a load of what an allocator holds
-pub loaded_history : (at found : ℕ) (v w : View) → Steps LoadWord reading (held_word at) found v w →
-    HasLoadedHeld at found (history_of v) (history_of w)
-loaded_history at found v w s = record {
-  load = entry s.0 (held_word at) LoadWord found;
-  word = refl;
+-- a load of a word
+pub loaded_history : (word found : ℕ) (v w : View) → Steps LoadWord reading word found v w →
+    HasLoaded word found (history_of v) (history_of w)
+loaded_history word found v w s = record {
+  load = entry s.0 word LoadWord found;
+  word_is = refl;
   kind = refl;
   returned = refl;
   made = record { own = ap (λ (y : View). y.own.own_steps) s.1; observed = ap (λ (y : View). y.own.observed) s.1 };

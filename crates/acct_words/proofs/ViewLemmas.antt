@@ -1,7 +1,8 @@
 -- Weights over all views, where a token's view is cut in two, takes in another, or changes.
-use Rattle.std.proofs.Common.{zero, suc, ◌≡◌, ℕ, ◌+◌, ◌≤◌, List, [], ◌∷◌, ◌++◌, set, refl, sym, ap, arith, sum_by}
+use Rattle.std.proofs.Common.{zero, suc, ◌≡◌, ℕ, ◌+◌, ◌≤◌, List, [], ◌∷◌, ◌++◌, set, refl, sym, ap, subst, arith, sum_by, All}
 use mathlib.Core.Option.{some, some-injective, some-ne-none}
 use lib.ListN.{get_elem?}
+use Rattle.std.proofs.lemmas.List.Elements.{All-head, All-tail}
 use Rattle.std.proofs.lemmas.List.Sums.{sum_by-append, sum_by-cons, sum_by_push}
 use Rattle.acct_core.specs.Claims.{Claim}
 use Rattle.acct_words.specs.Entries.{Entry}
@@ -23,6 +24,12 @@ module _ {A : Type 0} where
   at_most f [] id v at = absurd (some-ne-none v (sym at))
   at_most f (x ∷ xs) zero v at = let e = ap f (some-injective x v at) in let q = sum_by-cons f x xs in omega arith
   at_most f (x ∷ xs) (suc id) v at = let r = at_most f xs id v at in let q = sum_by-cons f x xs in omega arith
+
+-- what holds of all holds of the one at a place
+pub all_there : {A : Type 0} (P : A → Type 0) (xs : List A) (i : ℕ) (x : A) → All P xs → get_elem? xs i ≡ some x → P x
+all_there P [] i x h at = absurd (some-ne-none x (sym at))
+all_there P (y ∷ ys) zero x h at = subst P (some-injective y x at) (All-head P y ys h)
+all_there P (y ∷ ys) (suc i) x h at = all_there P ys i x (All-tail P y ys h) at
 
 -- a weight after a change of one view
 pub total_set : (f : Body → ℕ) (views : List View) (id : ℕ) (v w : View) → get_elem? views id ≡ some v →

@@ -1,12 +1,12 @@
 -- What the history of a caller shows of each call.
-use Rattle.std.specs.Prelude.{◌≡◌, ℕ, ◌+◌, ◌≤◌, Bool, not, List, [], ◌∷◌, ◌++◌, map, All, Some, None, sum_by}
+use Rattle.std.specs.Prelude.{◌≡◌, ℕ, ◌+◌, ◌≤◌, Bool, true, false, not, List, [], ◌∷◌, ◌++◌, map, All, Some, None, sum_by}
 use Rattle.mem_num.specs.declared.full.Full.{Full}
 use Rattle.mem_model.specs.WorstCase.{worst_case}
 use Rattle.acct_core.specs.declared.level_step.LevelStep.{LevelStep}
 use Rattle.acct_core.specs.Phases.{any_past}
 use Rattle.acct_words.specs.Entries.{StepKind, Entry, InHistory, begun}
 use Rattle.acct_words.specs.Entries.StepKind.{LoadWord, DrawChunkNumber, ForgetChunk}
-use Rattle.acct_words.specs.Places.{still_word, number_word, held_word}
+use Rattle.acct_words.specs.Places.{still_word, number_word}
 use Rattle.acct_words.specs.Views.{Start}
 use Rattle.acct_words.specs.Rule.{IsHistory, reservations}
 use Rattle.acct_words.specs.Climbs.{Climbs, refusal_of}
@@ -41,7 +41,7 @@ pub record HasCharged (at size number : ℕ) (old new : History) : Type 0 where
   pub pause : Entry
   pub steps : List LevelStep
   pub drew : IsDraw number draw
-  pub climb : Climbs at size up steps None
+  pub climb : Climbs at size false up steps None
   pub begins : sum_by begun up ≡ size
   pub within : All StaysWithinLimit steps
   pub paused : IsPause LoadWord pause
@@ -57,7 +57,7 @@ pub record HasBeenRefused (at size : ℕ) (old new : History) (full : Full) : Ty
   pub pause : Entry
   pub steps : List LevelStep
   pub drew : IsDraw number draw
-  pub climb : Climbs at size up steps None
+  pub climb : Climbs at size false up steps None
   pub begins : sum_by begun up ≡ size
   pub refusal : refusal_of at steps ≡ Some full
   pub descent : Descends at size down None
@@ -77,7 +77,7 @@ pub record IsWithinWorstCase (start : Start) (history : History) (bytes : ℕ) :
 pub record HasForced (at size : ℕ) (old new : History) (within : Bool) : Type 0 where
   pub up : List Entry
   pub steps : List LevelStep
-  pub climb : Climbs at size up steps None
+  pub climb : Climbs at size true up steps None
   pub begins : sum_by begun up ≡ 0
   pub answer : within ≡ not (any_past steps)
   pub made : Makes up old new
@@ -88,10 +88,10 @@ pub record HasDischarged (at size : ℕ) (old new : History) : Type 0 where
   pub descent : Descends at size down None
   pub made : Makes down old new
 
--- the token loaded what an allocator holds, and found this
-pub record HasLoadedHeld (at found : ℕ) (old new : History) : Type 0 where
+-- the token loaded a word, and found this
+pub record HasLoaded (word found : ℕ) (old new : History) : Type 0 where
   pub load : Entry
-  pub word : load.word ≡ held_word at
+  pub word_is : load.word ≡ word
   pub kind : load.kind ≡ LoadWord
   pub returned : load.found ≡ found
   pub made : Makes (load ∷ []) old new

@@ -46,7 +46,7 @@ pub record ViewCharges (at size : ℕ) (old new : View) (number : ℕ) (other : 
   pub last_found : ℕ
   pub steps : List LevelStep
   pub entries : List Entry
-  pub climb : Climbs at size entries steps None
+  pub climb : Climbs at size false entries steps None
   pub within : any_past steps ≡ false
   pub begins : sum_by begun entries ≡ size
   pub known : List Known
@@ -64,7 +64,7 @@ pub record ViewRefuses (at size : ℕ) (old new : View) (full : Full) : Type 0 w
   pub steps : List LevelStep
   pub entries : List Entry
   pub taken_back : List Entry
-  pub climb : Climbs at size entries steps None
+  pub climb : Climbs at size false entries steps None
   pub refusal : refusal_of at steps ≡ Some full
   pub begins : sum_by begun entries ≡ size
   pub descent : Descends at size taken_back None

@@ -1,18 +1,18 @@
 -- A request's way up the levels, as its token's own steps show it.
-use Rattle.std.specs.Prelude.{◌≡◌, ℕ, suc, ◌+◌, ◌-◌, ◌<◌, ◌==◌, Bool, true, false, if◌then◌else◌, List, [], ◌∷◌, ◌++◌, sum_by}
+use Rattle.std.specs.Prelude.{◌≡◌, ℕ, suc, ◌+◌, ◌-◌, ◌<◌, ◌≤◌, ◌==◌, Bool, true, false, not, ◌&&◌, ◌||◌, if◌then◌else◌, List, [], ◌∷◌, ◌++◌, sum_by}
 use Rattle.std.specs.Prelude.{Option, Some, None}
 use Rattle.mem_num.specs.declared.full.Full.{Full}
 use Rattle.mem_model.specs.Reservation.{beyond_reservation}
 use Rattle.acct_core.specs.declared.level_step.LevelStep.{LevelStep}
 use Rattle.acct_core.specs.Claims.{Claim, claim_at}
 use Rattle.acct_core.specs.Effects.{passed, goes_on, step_at}
-use Rattle.acct_core.specs.Phases.{is_past}
+use Rattle.acct_core.specs.Phases.{is_past, any_past}
 use Rattle.acct_words.specs.Entries.{StepKind, Entry, begun}
-use Rattle.acct_words.specs.Entries.StepKind.{LoadWord, DrawChunkNumber, BeginCharge, AddHeld, SubtractHeld, ForgetChunk}
+use Rattle.acct_words.specs.Entries.StepKind.{LoadWord, DrawChunkNumber, BeginCharge, AddHeld, SubtractHeld, ForgetChunk, RaisePeak}
 use Rattle.acct_words.specs.declared.fixed.Fixed.{Fixed}
 use Rattle.acct_words.specs.declared.level.Above.{Above}
 use Rattle.acct_words.specs.Views.{Chunk, Known, Body, View}
-use Rattle.acct_words.specs.Places.{held_word, limit_word, reservation_word, parent_word}
+use Rattle.acct_words.specs.Places.{held_word, limit_word, peak_word, reservation_word, parent_word}
 use Rattle.acct_words.specs.Rows.{parent_of, ComesAfterParent}
 use Rattle.acct_words.specs.Moves.{found_row, charged_as, reading}
 use Rattle.acct_words.specs.Plays.{entry, stepping, knowing}
@@ -34,6 +34,7 @@ amount_of (BeginCharge size) = Some size
 amount_of (AddHeld amount) = Some amount
 amount_of (SubtractHeld amount) = None
 amount_of (ForgetChunk size) = None
+amount_of (RaisePeak to) = None
 
 -- an entry loads a word, which returned this
 pub record IsLoadOf (word found : ℕ) (entry : Entry) : Type 0 where
@@ -49,14 +50,28 @@ pub record IsLevel (level amount : ℕ) (fixed : Fixed) (addition limit reservat
   pub reservation_is : IsLoadOf (reservation_word level) fixed.reservation reservation
   pub parent_is : IsLoadOf (parent_word level) fixed.parent.0 parent
 
+-- The peak of a level is raised to this, if it is due: it is loaded, and raised where it is below
+pub data IsRaise (level to : ℕ) : Bool → List Entry → Type 0 where
+  none : IsRaise level to false []
+  still : (load : Entry) → IsLoadOf (peak_word level) load.found load → to ≤ load.found → IsRaise level to true (load ∷ [])
+  raised : (load raise : Entry) → IsLoadOf (peak_word level) load.found load → raise.word ≡ peak_word level → raise.kind ≡ RaisePeak to →
+      IsRaise level to true (load ∷ raise ∷ [])
+
+-- a peak is due after these steps where the request is forced, or none of them went past its limit
+abbrev pub is_due : Bool → List LevelStep → Bool
+is_due forced steps = forced || not (any_past steps)
+
 -- The steps of a request of this size, from its allocator up, as these entries show them, and what is to be asked next; the request has
--- gone up all the way where nothing is. At each level the amount is added, and the limit, the reservation and the parent are loaded
-pub data Climbs (at size : ℕ) : List Entry → List LevelStep → Option (ℕ × ℕ) → Type 0 where
-  begins : Climbs at size [] [] (Some (at, size))
-  adds : {entries : List Entry} {steps : List LevelStep} {level amount : ℕ} (fixed : Fixed) (addition limit reservation parent : Entry) →
-      Climbs at size entries steps (Some (level, amount)) → IsLevel level amount fixed addition limit reservation parent →
-      Climbs at size (entries ++ addition ∷ limit ∷ reservation ∷ parent ∷ []) (steps ++ level_step level fixed amount addition.found ∷ [])
-      (next_asked level fixed amount addition.found)
+-- gone up all the way where nothing is. At each level the amount is added, the limit, the reservation and the parent are loaded, and the
+-- peak is raised where that is due
+pub data Climbs (at size : ℕ) (forced : Bool) : List Entry → List LevelStep → Option (ℕ × ℕ) → Type 0 where
+  begins : Climbs at size forced [] [] (Some (at, size))
+  adds : {entries : List Entry} {steps : List LevelStep} {level amount : ℕ} (fixed : Fixed) (addition limit reservation parent : Entry)
+      (raise : List Entry) →
+      Climbs at size forced entries steps (Some (level, amount)) → IsLevel level amount fixed addition limit reservation parent →
+      IsRaise level (addition.found + amount) (is_due forced (steps ++ level_step level fixed amount addition.found ∷ [])) raise →
+      Climbs at size forced (entries ++ addition ∷ limit ∷ reservation ∷ parent ∷ raise)
+      (steps ++ level_step level fixed amount addition.found ∷ []) (next_asked level fixed amount addition.found)
 
 -- the refusal of a step of a request that began at `at`
 abbrev pub full_at : ℕ → LevelStep → Full
@@ -95,7 +110,7 @@ standing old known entries bytes turns chunks = record old {
 pub record HasClimbed (at size : ℕ) (forced : Bool) (chunk : Chunk) (rest : List Claim) (others : List Chunk) (bytes turns : ℕ)
     (old new : View) (steps : List LevelStep) (next : Option (ℕ × ℕ)) : Type 0 where
   pub entries : List Entry
-  pub climb : Climbs at size entries steps next
+  pub climb : Climbs at size forced entries steps next
   -- a charge begins with its whole size, and a force begins nothing
   pub begins : sum_by begun entries ≡ (if forced then 0 else size)
   pub known : List Known
@@ -134,17 +149,36 @@ pub record ReadsLevel (level limit : ℕ) (above : Above) (old new : View) (fixe
   pub limit_is : limit ≡ fixed.limit
   pub above_is : IsAbove above fixed
 
--- what an addition at a level made of a view, with the loads after it, the refusal there, and what is to be asked next
-pub record GoesUpLevel (at : ℕ) (act : StepKind) (make : ℕ → Fixed → Body → Entry → Body) (level amount : ℕ) (old new : View)
-    (full : Option Full) (next : Option (ℕ × ℕ)) : Type 0 where
+-- a view with more steps of its own
+abbrev pub showing : View → List Entry → View
+showing old entries = record old { own = record (old.own) { own_steps = old.own.own_steps ++ entries } }
+
+-- what the loads at a level made of a view after an addition there, with its peak raised, the refusal, and what is to be asked next
+pub record EndsLevel (at level amount found : ℕ) (forced clean : Bool) (old new : View) (fixed : Fixed) (full : Option Full)
+    (next : Option (ℕ × ℕ)) : Type 0 where
+  pub first_name : ℕ
+  pub second_name : ℕ
+  pub third_name : ℕ
+  pub raise : List Entry
+  pub raise_is : IsRaise level (found + amount) (forced || (clean && not (is_past (level_step level fixed amount found)))) raise
+  pub view : new ≡ showing (level_read level fixed first_name second_name third_name old) raise
+  pub full_is : full ≡ refusal_of at (level_step level fixed amount found ∷ [])
+  pub next_is : next ≡ next_asked level fixed amount found
+
+-- What an addition at a level made of a view, with the loads after it, the refusal there, and what is to be asked next. The peak is raised
+-- where the request is forced, or where it is clean so far and this level isn't past its limit
+pub record GoesUpLevel (at : ℕ) (act : StepKind) (make : ℕ → Fixed → Body → Entry → Body) (forced clean : Bool) (level amount : ℕ)
+    (old new : View) (full : Option Full) (next : Option (ℕ × ℕ)) : Type 0 where
   pub fixed : Fixed
   pub found : ℕ
   pub name : ℕ
   pub first_name : ℕ
   pub second_name : ℕ
   pub third_name : ℕ
-  pub view : new ≡ level_read level fixed first_name second_name third_name
-      (stepping (make level fixed) (knowing level fixed old) (entry name (held_word level) act found))
+  pub raise : List Entry
+  pub raise_is : IsRaise level (found + amount) (forced || (clean && not (is_past (level_step level fixed amount found)))) raise
+  pub view : new ≡ showing (level_read level fixed first_name second_name third_name
+      (stepping (make level fixed) (knowing level fixed old) (entry name (held_word level) act found))) raise
   pub after_parent : ComesAfterParent level fixed
   pub full_is : full ≡ refusal_of at (level_step level fixed amount found ∷ [])
   pub next_is : next ≡ next_asked level fixed amount found
@@ -168,9 +202,8 @@ pub record IsCharged (at size : ℕ) (old new : View) (steps : List LevelStep) (
       (old.own.bytes - size) old.own.turns old new steps next
 
 -- the chunk in hand is on its way up, and this is the refusal so far
-pub record IsGoing (at : ℕ) (new : View) (full : Option Full) (next : Option (ℕ × ℕ)) : Type 0 where
+pub record IsGoing (at : ℕ) (forced : Bool) (new : View) (full : Option Full) (next : Option (ℕ × ℕ)) : Type 0 where
   pub size : ℕ
-  pub forced : Bool
   pub chunk : Chunk
   pub rest : List Claim
   pub others : List Chunk
@@ -182,9 +215,9 @@ pub record IsGoing (at : ℕ) (new : View) (full : Option Full) (next : Option (
   pub refusal : full ≡ refusal_of at steps
 
 -- whatever way up it was, it has gone on to x
-abbrev pub GoesOn : ℕ → View → View → Option Full → Option Full → Option (ℕ × ℕ) → Option (ℕ × ℕ) → Type 0
-GoesOn at new last_view full all next last =
-    (size : ℕ) (forced : Bool) (chunk : Chunk) (rest : List Claim) (others : List Chunk) (bytes turns : ℕ) (old : View)
+abbrev pub GoesOn : ℕ → Bool → View → View → Option Full → Option Full → Option (ℕ × ℕ) → Option (ℕ × ℕ) → Type 0
+GoesOn at forced new last_view full all next last =
+    (size : ℕ) (chunk : Chunk) (rest : List Claim) (others : List Chunk) (bytes turns : ℕ) (old : View)
     (steps : List LevelStep)
     → HasClimbed at size forced chunk rest others bytes turns old new steps next → full ≡ refusal_of at steps
     → (more : List LevelStep) × HasClimbed at size forced chunk rest others bytes turns old last_view more last × (all ≡ refusal_of at more)

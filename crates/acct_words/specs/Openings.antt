@@ -8,7 +8,7 @@ use Rattle.acct_core.specs.Balance.{child_count}
 use Rattle.acct_words.specs.declared.budget.Budget.{Budget}
 use Rattle.acct_words.specs.declared.budget.TheConstants.{MOST_BYTES, MOST_TURNS}
 use Rattle.acct_words.specs.declared.fixed.Fixed.{Fixed}
-use Rattle.acct_words.specs.Places.{number_word, held_word, word_count}
+use Rattle.acct_words.specs.Places.{number_word, held_word, peak_word, word_count}
 use Rattle.acct_words.specs.Rows.{node, parent_of, rows_of, fixed_in}
 use Rattle.acct_words.specs.Rule.{reservations}
 
@@ -55,6 +55,7 @@ pub record AreOpeningWords (tree : List Fixed) (words : List ℕ) : Type 0 where
   pub number : slice_index words number_word ≡ 1
   pub held : (number : ℕ) → number < length tree → slice_index words (held_word number) ≡ sum_by (child_count number) (rows_of tree 0 words)
   pub fixed : (number : ℕ) → number < length tree → fixed_in number words ≡ node tree number
+  pub peaks : (number : ℕ) → slice_index words (peak_word number) ≡ 0
 
 -- what the allocators below this number hold
 abbrev pub held_below : List ℕ → ℕ → ℕ
@@ -68,4 +69,5 @@ pub record AreFilledFrom (tree : List Fixed) (from : ℕ) (words : List ℕ) : T
   pub held : (number : ℕ) → number < length tree → slice_index words (held_word number) ≡ sum_by (child_count number)
       (rows_of (drop from tree) from words)
   pub fixed : (number : ℕ) → from ≤ number → number < length tree → fixed_in number words ≡ node tree number
+  pub peaks : (number : ℕ) → slice_index words (peak_word number) ≡ 0
   pub reserved : held_below words from ≤ sum (reservations (drop from tree))

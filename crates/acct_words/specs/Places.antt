@@ -17,6 +17,10 @@ held_word number = 16 * number + 32
 abbrev pub limit_word : ℕ → ℕ
 limit_word number = 16 * number + 33
 
+-- the most that it has been seen to hold
+abbrev pub peak_word : ℕ → ℕ
+peak_word number = 16 * number + 34
+
 -- what its parent sets aside for it
 abbrev pub reservation_word : ℕ → ℕ
 reservation_word number = 16 * number + 35

@@ -1,17 +1,17 @@
 -- What each kind of step tells its caller.
-use Rattle.std.specs.Prelude.{◌≡◌, ℕ, ◌+◌, ◌^◌, ◌<◌, ◌≤◌, ◌==◌, if◌then◌else◌, List, [], ◌∷◌, sum_by, Option, Some, None}
+use Rattle.std.specs.Prelude.{◌≡◌, ℕ, ◌+◌, ◌^◌, ◌<◌, ◌≤◌, ◌==◌, if◌then◌else◌, List, [], ◌∷◌, ◌++◌, sum_by, Option, Some, None, All}
 use Rattle.acct_words.specs.declared.budget.TheConstants.{MOST_BYTES}
 use Rattle.mem_num.specs.declared.bounds.TheConstants.{MOST_NUMBERS}
 use Rattle.atomic_table.specs.Table.{Me}
 use Rattle.atomic_table.specs.Table as table
-use Rattle.acct_words.specs.Entries.{StepKind, Entry, begun, forgotten}
-use Rattle.acct_words.specs.Entries.StepKind.{LoadWord, DrawChunkNumber, BeginCharge, AddHeld, SubtractHeld, ForgetChunk}
+use Rattle.acct_words.specs.Entries.{StepKind, Entry, begun, forgotten, reached, peak_shown}
+use Rattle.acct_words.specs.Entries.StepKind.{LoadWord, DrawChunkNumber, BeginCharge, AddHeld, SubtractHeld, ForgetChunk, RaisePeak}
 use Rattle.acct_words.specs.declared.rule.Said.{Said}
 use Rattle.acct_words.specs.declared.fixed.Fixed.{Fixed}
 use Rattle.acct_words.specs.Views.{Chunk, Known, Body, View}
 use mathlib.Core.Option as option
 use mathlib.Core.Option.{some, none}
-use Rattle.acct_words.specs.Places.{held_word, limit_word, reservation_word, parent_word}
+use Rattle.acct_words.specs.Places.{held_word, limit_word, peak_word, reservation_word, parent_word}
 use Rattle.acct_words.specs.Rows.{ComesAfterParent}
 use Rattle.acct_words.specs.Rule.{KnowsHistory, KnowsWorstCase}
 use Rattle.acct_words.specs.Openings.{held_uncharged}
@@ -37,6 +37,11 @@ knowing level fixed view = record view { known = record { level = level; fixed =
 abbrev pub known_at : ℕ → List Known → Option Fixed
 known_at level [] = None
 known_at level (known ∷ others) = if known.level == level then Some known.fixed else known_at level others
+
+-- a view that knows a level
+pub record KnowsLevel (level : ℕ) (view : View) : Type 0 where
+  pub fixed : Fixed
+  pub is : known_at level view.known ≡ Some fixed
 
 -- a step on the held word of a level made this of the token's own body, by what is fixed of the level, which the token knows from then on
 pub record StepsAt (act : StepKind) (make : ℕ → Fixed → Body → Entry → Body) (level found : ℕ) (old new : View) : Type 0 where
@@ -72,6 +77,21 @@ pub record TellsHeld (level found : ℕ) (old new : View) : Type 0 where
 abbrev pub parting_view : View → ℕ → ℕ → ℕ → View
 parting_view old name word found = record old { own = parting old.own (entry name word LoadWord found); offer = parted old.own }
 
+-- an addition of the token's own led to this
+pub record HasReached (to : ℕ) (view : View) : Type 0 where
+  pub before : List Entry
+  pub addition : Entry
+  pub later : List Entry
+  pub made : view.own.own_steps ≡ before ++ addition ∷ later
+  pub reaches : reached addition.kind addition.found ≡ to
+
+-- what a load of a peak tells: it is within the worst case, and has reached all that the token made or was shown
+pub record TellsPeak (level found : ℕ) (old new : View) : Type 0 where
+  pub small : found < 2 ^ 63
+  pub bound : KnowsWorstCase new found
+  pub own_steps : All (λ entry. peak_shown level entry ≤ found) old.own.own_steps
+  pub observed : All (λ entry. peak_shown level entry ≤ found) old.own.observed
+
 module _ {S : Type 0} where
   -- a number is drawn, which fits in 32 bits
   abbrev pub Draws : table.Step S → Me S View → ℕ → Me S View → Type 0
@@ -99,6 +119,15 @@ module _ {S : Type 0} where
   -- what is fixed of a level is read
   abbrev pub Reads : table.Step S → Me S View → ℕ → Me S View → Type 0
   Reads asked me found after = Steps LoadWord reading asked.word found me.0 after.0 × (after.1 ≡ me.1) × TellsFixed asked.word found me.0
+
+  -- a peak is read
+  abbrev pub ReadsPeak : table.Step S → Me S View → ℕ → Me S View → Type 0
+  ReadsPeak asked me found after = Steps LoadWord reading asked.word found me.0 after.0 × (after.1 ≡ me.1) ×
+      ((level : ℕ) → asked.word ≡ peak_word level → TellsPeak level found me.0 after.0)
+
+  -- a peak is raised
+  abbrev pub Raises : table.Step S → Me S View → ℕ → Me S View → Type 0
+  Raises asked me found after = Steps (RaisePeak asked.first) reading asked.word found me.0 after.0 × (after.1 ≡ me.1)
 
   -- what a level holds is read
   abbrev pub Looks : table.Step S → Me S View → ℕ → Me S View → Type 0

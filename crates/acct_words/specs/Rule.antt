@@ -8,11 +8,11 @@ use Rattle.mem_num.specs.declared.bounds.TheConstants.{MOST_ALLOCATORS, MOST_NUM
 use Rattle.mem_model.specs.WorstCase.{worst_case}
 use Rattle.acct_core.specs.Phases.{size_of}
 use Rattle.acct_core.specs.Lawful.{IsLawfulFixedTree}
-use Rattle.acct_words.specs.Entries.{Entry, reached, draw_count, begun, forgotten, drawn, drew, InHistory}
+use Rattle.acct_words.specs.Entries.{Entry, reached, draw_count, begun, forgotten, drawn, drew, peak_shown, InHistory}
 use Rattle.acct_words.specs.declared.fixed.Fixed.{Fixed}
 use Rattle.acct_words.specs.Views.{Start, Chunk, Known, Body, View}
 use Rattle.acct_words.specs.declared.fixed.Opening.{Opening}
-use Rattle.acct_words.specs.Places.{number_word, word_count}
+use Rattle.acct_words.specs.Places.{number_word, peak_word, word_count}
 use Rattle.acct_words.specs.Bodies.{nothing, total, made, bytes_left, turns_left, chunk_sizes, numbered}
 use Rattle.acct_words.specs.Rows.{node, fixed_in, shown}
 
@@ -93,6 +93,13 @@ pub record AreDrawn (history : List Entry) (words : List ℕ) (views : List View
   pub drawn : (number : ℕ) → total (numbered number) views ≤ sum_by (drew number) history
   pub fresh : (number : ℕ) → slice_index words number_word ≤ number → sum_by (drew number) history ≡ 0
 
+-- the peak of an allocator has reached all that entries show of it, and is within the worst case of what was asked for
+pub record KeepsPeaks (start : Start) (history : List Entry) (words : List ℕ) : Type 0 where
+  pub reached : (number : ℕ) → number < length start.tree →
+      All (λ entry. peak_shown number entry ≤ slice_index words (peak_word number)) history
+  pub bounded : (number : ℕ) → number < length start.tree →
+      slice_index words (peak_word number) ≤ worst_case (map begun history) (reservations start.tree)
+
 -- what holds between any two steps
 pub record IsSoundTable {S : Type 0} (start : Start) (state : State S View) : Type 0 where
   pub history : List Entry
@@ -105,6 +112,7 @@ pub record IsSoundTable {S : Type 0} (start : Start) (state : State S View) : Ty
   pub known : (id : ℕ) (view : View) → get_elem? state.views id ≡ some view → All (IsKnown start) view.known
   pub budget : KeepsBudget start history state.views
   pub numbers : AreDrawn history state.words state.views
+  pub peaks : KeepsPeaks start history state.words
 
 -- the view of the first token
 abbrev pub first : Start → View

@@ -1,5 +1,5 @@
 //! The way of a request up the levels.
-ghost use Rattle.std.specs.Prelude.{◌≡◌, ℕ, ◌+◌, ◌-◌, ◌^◌, ◌<◌, ◌≤◌, List, [], ◌∷◌, length, Some, None};
+ghost use Rattle.std.specs.Prelude.{◌≡◌, ℕ, ◌+◌, ◌-◌, ◌^◌, ◌<◌, ◌≤◌, true, false, List, [], ◌∷◌, length, Some, None};
 ghost use Rattle.mem_num.specs.declared.bounds.TheConstants.{MAX_RESERVATION, MOST_ALLOCATORS};
 ghost use Rattle.acct_core.specs.declared.level_step.LevelStep.{LevelStep};
 ghost use Rattle.acct_words.specs.Calls.{IsOf, GoesUp, HasEmptyChunk};
@@ -7,28 +7,10 @@ ghost use Rattle.acct_words.specs.Climbs.{GoesOn, GoesUpLevel, IsCharged, IsGoin
 ghost use Rattle.acct_words.specs.Entries.StepKind.{AddHeld, BeginCharge};
 ghost use Rattle.acct_words.specs.Moves.{beginning, rising};
 
-use crate::level::{asked_next, read_level};
+use crate::peak::end_level;
 use crate::rule::Counters;
 use crate::steps::{Token, begin, rise};
-use mem_num::{AllocId, Full};
-
-/// The refusal of a step that went past its limit.
-pub fn refused_at(at: usize, level: usize, found: u64, amount: u64, limit: u64) -> Option<Full>
-    requires small { (found + amount < 2 ^ 63) × (level < MOST_ALLOCATORS) }
-    ensures { (step : LevelStep) → step ≡ record { level = level; old = found; amount = amount; limit = limit } →
-        result ≡ refusal_of at (step ∷ []) }
-{
-    if found + amount <= limit {
-        return None;
-    }
-    Some(Full {
-        node: AllocId(level as u32),
-        held: found,
-        amount,
-        limit,
-        local: level == at,
-    })
-}
+use mem_num::Full;
 
 /// Keeps the first of two refusals. Where there is no second one nothing is written: a loop over levels copies none.
 fn keep_first(full: &mut Option<Full>, refused: Option<Full>)
@@ -54,36 +36,32 @@ fn begin_level(
     requires chunk { HasEmptyChunk token.old.me.0 }
     requires size { (1 ≤ size) × (size ≤ MAX_RESERVATION) × (size ≤ token.old.me.0.own.bytes) }
     ensures table { (token.new.table_id ≡ token.old.table_id) × (token.new.me.1 ≡ token.old.me.1) }
-    ensures level { GoesUpLevel at (BeginCharge size) (beginning size) at size token.old.me.0 token.new.me.0 result.0 result.1 }
+    ensures level { GoesUpLevel at (BeginCharge size) (beginning size) false true at size token.old.me.0 token.new.me.0
+        result.0 result.1 }
 {
     let found = begin(words, token, at, size);
-    let (limit, above) = read_level(words, token, at);
-    (
-        refused_at(at, at, found, size, limit),
-        asked_next(at, above, size, found),
-    )
+    end_level(words, token, at, at, size, found, false, true)
 }
 
-/// Goes up one level: adds there, and reads the limit.
-pub fn climb_level(
+/// Goes up one level of a request that is forced or not, and is clean so far or not: adds there, and reads the limit.
+fn climb_level(
     words: &Counters,
     token: &mut Token,
     at: usize,
     level: usize,
     amount: u64,
+    forced: bool,
+    clean: bool,
 ) -> (Option<Full>, Option<(usize, u64)>)
     requires table { IsOf words.now token.old }
     requires level { level < length words.now.key.nodes.items }
     requires up { GoesUp level amount token.old.me.0 }
     ensures table { (token.new.table_id ≡ token.old.table_id) × (token.new.me.1 ≡ token.old.me.1) }
-    ensures level { GoesUpLevel at (AddHeld amount) rising level amount token.old.me.0 token.new.me.0 result.0 result.1 }
+    ensures level { GoesUpLevel at (AddHeld amount) rising forced clean level amount token.old.me.0 token.new.me.0
+        result.0 result.1 }
 {
     let found = rise(words, token, level, amount);
-    let (limit, above) = read_level(words, token, level);
-    (
-        refused_at(at, level, found, amount, limit),
-        asked_next(level, above, amount, found),
-    )
+    end_level(words, token, at, level, amount, found, forced, clean)
 }
 
 /// Goes up the levels that are left, and answers the refusal of the lowest level that went past its limit.
@@ -91,17 +69,19 @@ pub fn climb_on(
     words: &Counters,
     token: &mut Token,
     at: usize,
+    forced: bool,
     mut full: Option<Full>,
     mut next: Option<(usize, u64)>,
 ) -> Option<Full>
     requires table { IsOf words.now token.old }
     requires inside { IsInTree (length words.now.key.nodes.items) next }
-    requires going { IsGoing at token.old.me.0 full next }
+    requires going { IsGoing at forced token.old.me.0 full next }
     ensures table { (token.new.table_id ≡ token.old.table_id) × (token.new.me.1 ≡ token.old.me.1) }
-    ensures went { GoesOn at token.old.me.0 token.new.me.0 full result next None }
+    ensures went { GoesOn at forced token.old.me.0 token.new.me.0 full result next None }
 {
     while let Some((level, amount)) = next {
-        let (refused, further) = climb_level(words, token, at, level, amount);
+        let clean = full.is_none();
+        let (refused, further) = climb_level(words, token, at, level, amount, forced, clean);
         keep_first(&mut full, refused);
         next = further;
     }
@@ -119,5 +99,5 @@ pub fn climb(words: &Counters, token: &mut Token, at: usize, size: u64) -> Optio
         × (result ≡ refusal_of at steps) }
 {
     let (full, next) = begin_level(words, token, at, size);
-    climb_on(words, token, at, full, next)
+    climb_on(words, token, at, false, full, next)
 }

@@ -1,5 +1,5 @@
 //! Forced charges.
-ghost use Rattle.std.specs.Prelude.{◌≡◌, ℕ, ◌^◌, ◌<◌, ◌≤◌, List, [], ◌∷◌, length, None};
+ghost use Rattle.std.specs.Prelude.{◌≡◌, ℕ, ◌^◌, ◌<◌, ◌≤◌, true, List, [], ◌∷◌, length, None};
 ghost use Rattle.mem_num.specs.declared.bounds.TheConstants.{MAX_RESERVATION};
 ghost use Rattle.acct_core.specs.declared.level_step.LevelStep.{LevelStep};
 ghost use Rattle.acct_words.specs.Calls.{IsOf, HasRoom};
@@ -7,8 +7,8 @@ ghost use Rattle.acct_words.specs.Climbs.{GoesUpLevel, IsForced, refusal_of};
 ghost use Rattle.acct_words.specs.Entries.StepKind.{AddHeld};
 ghost use Rattle.acct_words.specs.Moves.{forcing};
 
-use crate::climb::{climb_on, refused_at};
-use crate::level::{asked_next, read_level};
+use crate::climb::climb_on;
+use crate::peak::end_level;
 use crate::rule::Counters;
 use crate::steps::{Token, begin_force};
 use mem_num::Full;
@@ -25,14 +25,11 @@ fn force_level(
     requires chunk { HasRoom size token.old.me.0 }
     requires size { (1 ≤ size) × (size ≤ MAX_RESERVATION) }
     ensures table { (token.new.table_id ≡ token.old.table_id) × (token.new.me.1 ≡ token.old.me.1) }
-    ensures level { GoesUpLevel at (AddHeld size) (forcing size) at size token.old.me.0 token.new.me.0 result.0 result.1 }
+    ensures level { GoesUpLevel at (AddHeld size) (forcing size) true true at size token.old.me.0 token.new.me.0
+        result.0 result.1 }
 {
     let found = begin_force(words, token, at, size);
-    let (limit, above) = read_level(words, token, at);
-    (
-        refused_at(at, at, found, size, limit),
-        asked_next(at, above, size, found),
-    )
+    end_level(words, token, at, at, size, found, true, true)
 }
 
 /// Charges the chunk in hand a second time, at an allocator and further up, and undoes nothing.
@@ -46,5 +43,5 @@ pub fn force(words: &Counters, token: &mut Token, at: usize, size: u64) -> Optio
         × (result ≡ refusal_of at steps) }
 {
     let (full, next) = force_level(words, token, at, size);
-    climb_on(words, token, at, full, next)
+    climb_on(words, token, at, true, full, next)
 }

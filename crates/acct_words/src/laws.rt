@@ -1,12 +1,13 @@
 //! What follows from the rule of the table.
-ghost use Rattle.std.specs.Prelude.{◌≡◌, ℕ, ◌+◌, ◌^◌, ◌<◌, ◌≤◌, length, slice_index, sum_by};
+ghost use Rattle.std.specs.Prelude.{◌≡◌, ℕ, ◌+◌, ◌^◌, ◌<◌, ◌≤◌, Bool, All, length, slice_index, sum_by};
 ghost use Rattle.atomic_table.specs.Table.{State};
 ghost use Rattle.acct_core.specs.Phases.{pending_subtraction};
 ghost use Rattle.acct_words.specs.Rows.{claims_of};
 ghost use Rattle.acct_words.specs.Views.{Start, View};
-ghost use Rattle.acct_words.specs.CallHistories.{HasBeenRefused};
+ghost use Rattle.acct_words.specs.CallHistories.{HasBeenRefused, HasCharged, HasForced};
+ghost use Rattle.acct_words.specs.Entries.{peak_shown};
 ghost use Rattle.acct_words.specs.Returns.{HasComeBack, HasGivenAllBack};
-ghost use Rattle.acct_words.specs.Tokens.{CallerToken};
+ghost use Rattle.acct_words.specs.Tokens.{CallerToken, History};
 ghost use Rattle.mem_num.specs.declared.full.Full.{Full};
 ghost use Rattle.acct_words.specs.Places.{held_word};
 ghost use Rattle.acct_words.specs.Rule.{IsSoundTable};
@@ -20,6 +21,15 @@ pub fn held_words_stay_small()
     ensures covers { (start : Start) (state : State Said View) → IsSoundTable start state → (number : ℕ) →
         number < length start.tree → sum_by (λ claim. pending_subtraction number claim.phase) (claims_of state.views)
         ≤ slice_index state.words (held_word number) }
+{}
+
+/// A peak has reached what was charged: whoever reads the peak of an allocator, and knows the steps of a charge that succeeded there or of
+/// a force, finds at least its size.
+pub fn peaks_have_reached_what_was_charged()
+    ensures charged { (at size number : ℕ) (old new : History) → HasCharged at size number old new →
+        (peak : ℕ) → All (λ entry. peak_shown at entry ≤ peak) new.own → size ≤ peak }
+    ensures forced { (at size : ℕ) (old new : History) (within : Bool) → HasForced at size old new within →
+        (peak : ℕ) → All (λ entry. peak_shown at entry ≤ peak) new.own → size ≤ peak }
 {}
 
 /// A token that alone made charges, and gave all of them back, still has done so after one more that came back or was refused: so it

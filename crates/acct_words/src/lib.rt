@@ -12,6 +12,7 @@ mod laws;
 mod level;
 mod opening;
 mod pass;
+mod peak;
 mod release;
 mod rule;
 mod steps;
@@ -21,7 +22,10 @@ mod words;
 pub use budget::{Budget, MOST_BYTES, MOST_TURNS, budgets_are_bounded_by_powers_of_two};
 pub use chunk_seat::ChunkSeat;
 pub use fixed::{Fixed, Opening};
-pub use laws::{charges_that_come_back_leave_nothing, held_words_stay_small};
+pub use laws::{
+    charges_that_come_back_leave_nothing, held_words_stay_small,
+    peaks_have_reached_what_was_charged,
+};
 pub use opening::is_fixed_tree;
 pub use pass::Pass;
 pub use view::Shown;

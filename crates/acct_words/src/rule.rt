@@ -81,6 +81,22 @@ impl Play<Said, Shown> for Reading {
     ghost then = { Reads };
 }
 
+pub struct ReadingPeak;
+
+impl Play<Said, Shown> for ReadingPeak {
+    ghost use Rattle.acct_words.specs.Plays.{ReadsPeak};
+
+    ghost then = { ReadsPeak };
+}
+
+pub struct Raising;
+
+impl Play<Said, Shown> for Raising {
+    ghost use Rattle.acct_words.specs.Plays.{Raises};
+
+    ghost then = { Raises };
+}
+
 pub struct Looking;
 
 impl Play<Said, Shown> for Looking {

@@ -6,17 +6,17 @@ ghost use Rattle.acct_core.specs.Claims.{Claim};
 ghost use Rattle.acct_core.specs.declared.level_step.LevelStep.{LevelStep};
 ghost use Rattle.acct_core.specs.Phases.Phase.{Up};
 ghost use Rattle.acct_core.specs.Claims.{claim_at};
-ghost use Rattle.acct_words.specs.Entries.StepKind.{LoadWord, DrawChunkNumber, BeginCharge, AddHeld, SubtractHeld, ForgetChunk};
+ghost use Rattle.acct_words.specs.Entries.StepKind.{LoadWord, DrawChunkNumber, BeginCharge, AddHeld, SubtractHeld, ForgetChunk, RaisePeak};
 ghost use Rattle.acct_words.specs.Calls.{IsOf, HasChunk, HasEmptyChunk, HasRoom, GoesUp, TurnsBack, GoesDown, HasParted};
 ghost use Rattle.acct_words.specs.Moves.{drawing, beginning, forcing, rising, reading, parting, falling, turning};
-ghost use Rattle.acct_words.specs.Places.{still_word, number_word, held_word, limit_word, reservation_word, parent_word};
-ghost use Rattle.acct_words.specs.Plays.{Steps, StepsAt, TellsFixed, TellsHeld, entry, first_size, paying_view};
+ghost use Rattle.acct_words.specs.Places.{still_word, number_word, held_word, limit_word, peak_word, reservation_word, parent_word};
+ghost use Rattle.acct_words.specs.Plays.{HasReached, Steps, StepsAt, TellsFixed, TellsHeld, TellsPeak, entry, first_size, paying_view};
 ghost use Rattle.acct_words.specs.Bodies.{nothing, left, right, both};
 ghost use Rattle.acct_words.specs.Rule.{KnowsHistory};
 
 use crate::rule::{
     Beginning, Counters, Counting, Cut, Drawing, Falling, Forcing, Forgetting, Looking, Parting,
-    Paying, Reading, Rising, Said, Together, Turning,
+    Paying, Raising, Reading, ReadingPeak, Rising, Said, Together, Turning,
 };
 use crate::view::Shown;
 use atomic_table::Seat;
@@ -103,6 +103,28 @@ pub fn read_parent(words: &Counters, token: &mut Token, level: usize) -> u64
     ensures tells { TellsFixed (parent_word level) result token.old.me.0 }
 {
     words.load::<Reading>(token, 16 * level + 36)
+}
+
+/// Reads the peak of a level.
+pub fn read_peak(words: &Counters, token: &mut Token, level: usize) -> u64
+    requires table { IsOf words.now token.old }
+    requires level { level < length words.now.key.nodes.items }
+    ensures table { (token.new.table_id ≡ token.old.table_id) × (token.new.me.1 ≡ token.old.me.1) }
+    ensures view { Steps LoadWord reading (peak_word level) result token.old.me.0 token.new.me.0 }
+    ensures tells { TellsPeak level result token.old.me.0 token.new.me.0 }
+{
+    words.load::<ReadingPeak>(token, 16 * level + 34)
+}
+
+/// Raises the peak of a level to what an addition led to, where it is below that.
+pub fn raise(words: &Counters, token: &mut Token, level: usize, to: u64)
+    requires table { IsOf words.now token.old }
+    requires level { level < length words.now.key.nodes.items }
+    requires reached { HasReached to token.old.me.0 }
+    ensures table { (token.new.table_id ≡ token.old.table_id) × (token.new.me.1 ≡ token.old.me.1) }
+    ensures view { (found : ℕ) × Steps (RaisePeak to) reading (peak_word level) found token.old.me.0 token.new.me.0 }
+{
+    words.fetch_max::<Raising>(token, 16 * level + 34, to);
 }
 
 /// Reads what a level holds.

@@ -1,18 +1,20 @@
 //! The accounts table, and its calls.
-ghost use Rattle.std.specs.Prelude.{◌≡◌, ◌+◌, ◌^◌, ◌<◌, ◌≤◌, [], ◌∷◌, length, IfOk, IfErr, IsTrue};
+ghost use Rattle.std.specs.Prelude.{◌≡◌, ◌+◌, ◌^◌, ◌<◌, ◌≤◌, [], ◌∷◌, ◌++◌, length, All, IfOk, IfErr, IsTrue};
 ghost use Rattle.mem_num.specs.declared.bounds.TheConstants.{LARGEST, MOST_NUMBERS, MOST_ALLOCATORS};
 ghost use Rattle.acct_words.specs.CallHistories.{
   HasBeenRefused,
   HasCharged,
   HasDischarged,
   HasForced,
-  HasLoadedHeld,
+  HasLoaded,
   IsWithinWorstCase,
   SplitsOff,
   TakesIn,
 };
 ghost use Rattle.acct_words.specs.Entries.StepKind.{ForgetChunk, LoadWord};
+ghost use Rattle.acct_words.specs.Entries.{peak_shown};
 ghost use Rattle.acct_words.specs.Openings.{IsFixedTree, IsWithinBudget, held_uncharged};
+ghost use Rattle.acct_words.specs.Places.{held_word, peak_word};
 ghost use Rattle.acct_words.specs.Returns.{HasGivenAllBack};
 ghost use Rattle.acct_words.specs.Tokens.{IsElsewhere, is_charged, no_history, shown_history, without};
 
@@ -22,7 +24,7 @@ use crate::fixed::{Fixed, Opening};
 use crate::opening::opening_words;
 use crate::pass::Pass;
 use crate::rule::{AccountsRule, Said, Together};
-use crate::steps::{forget, join, look, pay};
+use crate::steps::{forget, join, look, pay, read_peak};
 use crate::view::Shown;
 use crate::{charge, force, release};
 use atomic_table::Table;
@@ -160,7 +162,7 @@ impl Words {
         requires table { pass.old.table ≡ self.now }
         requires at { at.0 < length self.now.start.tree }
         ensures pass { (pass.new.table ≡ self.now) × (pass.new.budget ≡ pass.old.budget) }
-        ensures loaded { HasLoadedHeld at.0 result pass.old.history pass.new.history }
+        ensures loaded { HasLoaded (held_word at.0) result pass.old.history pass.new.history }
         ensures small { result < 2 ^ 63 }
         ensures bound { IsWithinWorstCase self.now.start pass.new.history result }
 
@@ -169,6 +171,23 @@ impl Words {
             → result ≡ held_uncharged self.now.start.tree at.0 }
     {
         look(&self.table.shared, &mut pass.token, at.0 as usize)
+    }
+
+    /// The peak of an allocator since the opening, by a load of its own: true at the moment of that load. A charge that succeeds and a
+    /// force raise it, and no release lowers it. Waits for nobody, and takes no memory.
+    pub fn peak(&self, pass: &mut Pass, at: AllocId) -> u64
+        requires table { pass.old.table ≡ self.now }
+        requires at { at.0 < length self.now.start.tree }
+        ensures pass { (pass.new.table ≡ self.now) × (pass.new.budget ≡ pass.old.budget) }
+        ensures loaded { HasLoaded (peak_word at.0) result pass.old.history pass.new.history }
+        ensures small { result < 2 ^ 63 }
+        ensures bound { IsWithinWorstCase self.now.start pass.new.history result }
+
+        // It has reached all that the caller made or was shown of it.
+        ensures reached { All (λ entry. peak_shown at.0 entry ≤ result)
+            (pass.old.history.own ++ pass.old.history.observed) }
+    {
+        read_peak(&self.table.shared, &mut pass.token, at.0 as usize)
     }
 
     /// Joins the token of a chunk that is charged nowhere into a caller token.

@@ -60,6 +60,15 @@ fn charge(
     words.charge(pass, at, size)
 }
 
+/// The peaks of the root and of the allocator below it.
+fn peaks(words: &Words, pass: &mut Pass) -> (u64, u64)
+    requires table { pass.old.table ≡ words.now }
+    requires two { 2 ≤ length words.now.start.tree }
+    ensures table { pass.new.table ≡ words.now }
+{
+    (words.peak(pass, ROOT), words.peak(pass, C))
+}
+
 const AMPLE: Budget = Budget {
     bytes: 1 << 30,
     turns: 100,
@@ -78,6 +87,7 @@ fn a_reservation_covers_the_first_bytes(rt: HostRuntime) -> Result<(), Fail> {
     let second = charge(&rt, &words, &mut pass, C, 4096);
     assert_eq!(rt; words.held(&mut pass, ROOT), 6144);
     assert_eq!(rt; words.held(&mut pass, C), 6144);
+    assert_eq!(rt; peaks(&words, &mut pass), (6144, 6144));
     let Ok(mut seat) = second else {
         panic!(rt; "refused");
     };
@@ -113,6 +123,7 @@ fn a_full_parent_refuses_and_all_is_taken_back(rt: HostRuntime) -> Result<(), Fa
     );
     assert_eq!(rt; words.held(&mut pass, ROOT), 1024);
     assert_eq!(rt; words.held(&mut pass, C), 1024);
+    assert_eq!(rt; peaks(&words, &mut pass), (1024, 1536));
     Ok(())
 }
 
@@ -137,6 +148,7 @@ fn a_full_allocator_refuses_its_own_request(rt: HostRuntime) -> Result<(), Fail>
     );
     assert_eq!(rt; words.held(&mut pass, ROOT), 1024);
     assert_eq!(rt; words.held(&mut pass, C), 1024);
+    assert_eq!(rt; peaks(&words, &mut pass), (1024, 1024));
     let Ok(seat) = charge(&rt, &words, &mut pass, ROOT, 2) else {
         panic!(rt; "refused");
     };
@@ -156,12 +168,14 @@ fn a_force_goes_past_limits_and_moves_the_charge(rt: HostRuntime) -> Result<(), 
     assert!(rt; !within);
     assert_eq!(rt; words.held(&mut pass, ROOT), 2048);
     assert_eq!(rt; words.held(&mut pass, C), 1024);
+    assert_eq!(rt; peaks(&words, &mut pass), (2048, 1024));
     words.discharge(&mut seat, ROOT);
     assert_eq!(rt; words.held(&mut pass, ROOT), 1024);
     assert_eq!(rt; words.held(&mut pass, C), 1024);
     words.discharge(&mut seat, C);
     assert_eq!(rt; words.held(&mut pass, ROOT), 0);
     assert_eq!(rt; words.held(&mut pass, C), 0);
+    assert_eq!(rt; peaks(&words, &mut pass), (2048, 1024));
     words.retire(&mut pass, seat);
     Ok(())
 }

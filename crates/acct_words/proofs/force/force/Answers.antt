@@ -1,3 +1,4 @@
+use Rattle.std.proofs.Common.{true}
 use Rattle.std.specs.Prelude.{length}
 use Rattle.acct_words.specs.Entries.StepKind.{AddHeld}
 use Rattle.acct_words.specs.Moves.{forcing}
@@ -6,7 +7,7 @@ use Rattle.acct_words.proofs.force.force.Goals as goal
 
 pub climb_on-requires-clause-inside : goal.climb_on-requires-clause-inside
 climb_on-requires-clause-inside c = asked_in_tree (length c.args.words.now.key.nodes.items) c.args.at c.args.at c.args.size
-    (AddHeld c.args.size) (forcing c.args.size) _ _ _ _ c.force_level-full.ensures.level c.requires.level
+    (AddHeld c.args.size) (forcing c.args.size) true true _ _ _ _ c.force_level-full.ensures.level c.requires.level
 
 pub climb_on-requires-clause-going : goal.climb_on-requires-clause-going
 climb_on-requires-clause-going c =

@@ -1,7 +1,8 @@
 use Rattle.std.proofs.Common.{subst}
 use Rattle.acct_words.specs.Tokens.{ChunkToken, history_of}
 use Rattle.acct_words.specs.CallHistories.{HasForced}
-use Rattle.acct_words.proofs.TokenLemmas.{of_chunk, forced_history, none_is}
+use Rattle.acct_words.proofs.TokenLemmas.{of_chunk, forced_history}
+use Rattle.acct_words.proofs.ClimbLemmas.{none_is}
 use Rattle.acct_words.proofs.words.Words.force.Goals as goal
 
 pub returns-clause-forced : goal.returns-clause-forced
