@@ -9,12 +9,12 @@ use Rattle.acct_words.specs.declared.rule.Said.{Said}
 use Rattle.acct_words.specs.Places.{number_word, held_word, peak_word}
 use Rattle.acct_words.specs.Bodies.{nothing}
 use Rattle.acct_words.specs.Rule.{IsSoundTable}
-use Rattle.acct_words.specs.Plays.{HasReached, Draws, Begins, Forces, Rises, Reads, ReadsPeak, Raises, Looks, Parts, Turns, Falls, Forgets, Counts, Pays}
+use Rattle.acct_words.specs.Plays.{HasReached, Draws, Begins, Forces, Rises, Reads, ReadsPeak, Raises, Looks, Meets, Parts, Turns, Falls, Forgets, Counts, Pays}
 use Rattle.acct_words.specs.Calls.{HasChunk, HasEmptyChunk, HasRoom, GoesUp, TurnsBack, GoesDown}
 use Rattle.acct_words.proofs.StepLemmas.{begins_allowed, rises_allowed}
 use Rattle.acct_words.proofs.BudgetLemmas.{counts_allowed, pays_allowed}
 use Rattle.acct_words.proofs.ForceLemmas.{forces_allowed}
-use Rattle.acct_words.proofs.HeldLemmas.{looks_allowed}
+use Rattle.acct_words.proofs.HeldLemmas.{looks_allowed, meets_allowed}
 use Rattle.acct_words.proofs.PeakLemmas.{peak_allowed, raise_allowed}
 use Rattle.acct_words.proofs.FallLemmas.{falls_allowed, turns_allowed, forgets_allowed}
 use Rattle.acct_words.proofs.LoadLemmas.{draws_allowed, reads_allowed, parts_allowed}
@@ -46,6 +46,13 @@ module _ (start : Start) (slots id : ℕ) (me : Me Said View) (same : me.0.start
   pub read_owes : (i : ℕ) → Allows (IsSoundTable start) slots id me i (λ n. n) (Reads (step slots i 0 0 none) me)
   read_owes i = subst (λ (x : Start). Allows (IsSoundTable x) slots id me i (λ n. n) (Reads (step slots i 0 0 none) me)) same
       (reads_allowed slots id i me)
+
+  -- the reading of a held number by which a level is known
+  pub meet_owes : (m : ℕ) → m < length start.tree → Allows (IsSoundTable start) slots id me (held_word m) (λ n. n)
+      (Meets (step slots (held_word m) 0 0 none) me)
+  meet_owes m there = subst (λ (x : Start). Allows (IsSoundTable x) slots id me (held_word m) (λ n. n)
+      (Meets (step slots (held_word m) 0 0 none) me)) same
+      (meets_allowed slots id me m (subst (λ (x : Start). m < length x.tree) (sym same) there))
 
   -- the reading of a peak
   pub peak_owes : (m : ℕ) → m < length start.tree → Allows (IsSoundTable start) slots id me (peak_word m) (λ n. n)

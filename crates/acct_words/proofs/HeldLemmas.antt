@@ -35,14 +35,15 @@ use Rattle.acct_words.specs.Rows.{node, parent_of, rows_of, claims_of}
 use Rattle.acct_words.specs.Moves.{reading}
 use Rattle.acct_words.specs.Openings.{given_nodes, held_uncharged}
 use Rattle.acct_words.specs.Rule.{IsSoundTable, KnowsHistory, reservations}
-use Rattle.acct_words.specs.Plays.{entry, stepping, IsAllGivenBack, TellsHeld, Looks}
+use Rattle.acct_words.specs.Plays.{entry, stepping, knowing, IsAllGivenBack, TellsHeld, Looks, Meets}
 use Rattle.acct_words.proofs.ViewLemmas.{at_most}
 use Rattle.acct_words.proofs.RowLemmas.{rows_of-at, limits_of}
 use Rattle.acct_words.proofs.ClaimLemmas.{claims_of-sum}
 use Rattle.acct_words.proofs.AccountLemmas.{row_open, held_bounded}
 use Rattle.acct_words.proofs.BoundLemmas.{its_size, views_bound, held_small}
-use Rattle.acct_words.proofs.KeptLemmas.{step_legal}
-use Rattle.acct_words.proofs.LoadLemmas.{load_step, load_kept, reading_owed}
+use Rattle.acct_words.proofs.KeptLemmas.{step_legal, known_more}
+use Rattle.acct_words.proofs.StepLemmas.{at_level, comes_after}
+use Rattle.acct_words.proofs.LoadLemmas.{IsLoad, load_step, load_kept, reading_owed}
 
 -- the allocators that the rows show are those that were given
 pub given_nodes-rows : (tree : List Fixed) (n : ℕ) (words : List ℕ) →
@@ -178,6 +179,40 @@ module _ (start : Start) (s : State Said View) (k : IsSoundTable start s) where
       let p = k.budget.bytes in
       let q = k.budget.sizes in
       omega arith
+
+-- what a level holds is read, and the level is known
+pub meets_allowed : (slots id : ℕ) (me : Me Said View) (m : ℕ) → m < length me.0.start.tree →
+    Allows (IsSoundTable me.0.start) slots id me (held_word m) (λ n. n) (Meets (step slots (held_word m) 0 0 none) me)
+meets_allowed slots id me m there s k _ at _ =
+    let found : ℕ = slice_index s.words (held_word m) in
+    let e = entry (length k.history) (held_word m) LoadWord found in
+    let f = node me.0.start.tree m in
+    let w = stepping reading (knowing m f me.0) e in
+    let o = reading_owed me.0.start s id me.0 k at (held_word m) in
+    let owed : IsLoad me.0.start s s.homes id me.0 w k at (held_word m) LoadWord = record {
+      quiet = o.quiet;
+      claims = o.claims;
+      made = o.made;
+      bytes = o.bytes;
+      turns = o.turns;
+      sizes = o.sizes;
+      numbers = o.numbers;
+      good = o.good;
+      known = known_more me.0.start m me.0.known there (k.known id me.0 at);
+    } in (
+      w,
+      keeps,
+      tt,
+      load_kept me.0.start s s.homes id me.0 w k at (held_word m) LoadWord owed,
+      (
+        at_level LoadWord (λ level fixed. reading) m found me.0 w (record {
+          fixed = f;
+          made = (length k.history, refl);
+          after_parent = comes_after me.0.start s k m there;
+        }),
+        refl,
+      ),
+    )
 
 -- what a level holds is read
 pub looks_allowed : (slots id : ℕ) (me : Me Said View) (m : ℕ) → m < length me.0.start.tree →

@@ -15,6 +15,7 @@ pub mod HeldLemmas
 pub mod CallLemmas
 pub mod ClimbLemmas
 pub mod ReleaseLemmas
+pub mod HeadroomLemmas
 pub mod ChargeLemmas
 pub mod FillLemmas
 pub mod OpeningLemmas

@@ -13,4 +13,5 @@ pub mod Charges
 pub mod Openings
 pub mod Tokens
 pub mod CallHistories
+pub mod Headrooms
 pub mod Returns

@@ -120,6 +120,12 @@ module _ {S : Type 0} where
   abbrev pub Reads : table.Step S → Me S View → ℕ → Me S View → Type 0
   Reads asked me found after = Steps LoadWord reading asked.word found me.0 after.0 × (after.1 ≡ me.1) × TellsFixed asked.word found me.0
 
+  -- what a level holds is read, and the level is known from then on
+  abbrev pub Meets : table.Step S → Me S View → ℕ → Me S View → Type 0
+  Meets asked me found after =
+      ((level : ℕ) → asked.word ≡ held_word level → StepsAt LoadWord (λ level fixed. reading) level found me.0 after.0) ×
+      (after.1 ≡ me.1)
+
   -- a peak is read
   abbrev pub ReadsPeak : table.Step S → Me S View → ℕ → Me S View → Type 0
   ReadsPeak asked me found after = Steps LoadWord reading asked.word found me.0 after.0 × (after.1 ≡ me.1) ×

@@ -8,6 +8,7 @@ mod chunk_seat;
 mod climb;
 mod fixed;
 mod force;
+mod headroom;
 mod laws;
 mod level;
 mod opening;

@@ -81,6 +81,14 @@ impl Play<Said, Shown> for Reading {
     ghost then = { Reads };
 }
 
+pub struct Meeting;
+
+impl Play<Said, Shown> for Meeting {
+    ghost use Rattle.acct_words.specs.Plays.{Meets};
+
+    ghost then = { Meets };
+}
+
 pub struct ReadingPeak;
 
 impl Play<Said, Shown> for ReadingPeak {

@@ -15,8 +15,8 @@ ghost use Rattle.acct_words.specs.Bodies.{nothing, left, right, both};
 ghost use Rattle.acct_words.specs.Rule.{KnowsHistory};
 
 use crate::rule::{
-    Beginning, Counters, Counting, Cut, Drawing, Falling, Forcing, Forgetting, Looking, Parting,
-    Paying, Raising, Reading, ReadingPeak, Rising, Said, Together, Turning,
+    Beginning, Counters, Counting, Cut, Drawing, Falling, Forcing, Forgetting, Looking, Meeting,
+    Parting, Paying, Raising, Reading, ReadingPeak, Rising, Said, Together, Turning,
 };
 use crate::view::Shown;
 use atomic_table::Seat;
@@ -103,6 +103,16 @@ pub fn read_parent(words: &Counters, token: &mut Token, level: usize) -> u64
     ensures tells { TellsFixed (parent_word level) result token.old.me.0 }
 {
     words.load::<Reading>(token, 16 * level + 36)
+}
+
+/// Reads what a level holds, and knows the level from then on.
+pub fn meet(words: &Counters, token: &mut Token, level: usize) -> u64
+    requires table { IsOf words.now token.old }
+    requires level { level < length words.now.key.nodes.items }
+    ensures table { (token.new.table_id ≡ token.old.table_id) × (token.new.me.1 ≡ token.old.me.1) }
+    ensures view { StepsAt LoadWord (λ level fixed. reading) level result token.old.me.0 token.new.me.0 }
+{
+    words.load::<Meeting>(token, 16 * level + 32)
 }
 
 /// Reads the peak of a level.

@@ -13,6 +13,7 @@ ghost use Rattle.acct_words.specs.CallHistories.{
 };
 ghost use Rattle.acct_words.specs.Entries.StepKind.{ForgetChunk, LoadWord};
 ghost use Rattle.acct_words.specs.Entries.{peak_shown};
+ghost use Rattle.acct_words.specs.Headrooms.{HasSeen, headroom_on, is_over_on};
 ghost use Rattle.acct_words.specs.Openings.{IsFixedTree, IsWithinBudget, held_uncharged};
 ghost use Rattle.acct_words.specs.Places.{held_word, peak_word};
 ghost use Rattle.acct_words.specs.Returns.{HasGivenAllBack};
@@ -21,6 +22,7 @@ ghost use Rattle.acct_words.specs.Tokens.{IsElsewhere, is_charged, no_history, s
 use crate::budget::Budget;
 use crate::chunk_seat::ChunkSeat;
 use crate::fixed::{Fixed, Opening};
+use crate::headroom::see;
 use crate::opening::opening_words;
 use crate::pass::Pass;
 use crate::rule::{AccountsRule, Said, Together};
@@ -188,6 +190,29 @@ impl Words {
             (pass.old.history.own ++ pass.old.history.observed) }
     {
         read_peak(&self.table.shared, &mut pass.token, at.0 as usize)
+    }
+
+    /// How many bytes more an allocator could be given, by its limit and by those above it; less than nothing where it or one above it
+    /// holds more than its limit. After `BaseAllocator.getHeadroom`, by separate loads, each true at its own moment. Waits for nobody, and
+    /// takes no memory.
+    pub fn headroom(&self, pass: &mut Pass, at: AllocId) -> i128
+        requires table { pass.old.table ≡ self.now }
+        requires at { at.0 < length self.now.start.tree }
+        ensures pass { (pass.new.table ≡ self.now) × (pass.new.budget ≡ pass.old.budget) }
+        ensures seen { HasSeen at.0 (λ levels. result ≡ headroom_on levels) pass.old.history pass.new.history }
+    {
+        see(&self.table.shared, &mut pass.token, at.0 as usize).0
+    }
+
+    /// Whether an allocator or one above it holds more than its limit. After `BaseAllocator.isOverLimit`, by separate loads, each true at
+    /// its own moment. Waits for nobody, and takes no memory.
+    pub fn over_limit(&self, pass: &mut Pass, at: AllocId) -> bool
+        requires table { pass.old.table ≡ self.now }
+        requires at { at.0 < length self.now.start.tree }
+        ensures pass { (pass.new.table ≡ self.now) × (pass.new.budget ≡ pass.old.budget) }
+        ensures seen { HasSeen at.0 (λ levels. result ≡ is_over_on levels) pass.old.history pass.new.history }
+    {
+        see(&self.table.shared, &mut pass.token, at.0 as usize).1
     }
 
     /// Joins the token of a chunk that is charged nowhere into a caller token.

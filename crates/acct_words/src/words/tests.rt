@@ -158,6 +158,17 @@ fn a_full_allocator_refuses_its_own_request(rt: HostRuntime) -> Result<(), Fail>
 }
 
 #[test]
+fn an_unused_reservation_is_headroom(rt: HostRuntime) -> Result<(), Fail> {
+    let nodes = two(1024, 512, 2048);
+    let (words, mut pass) = open(&rt, &nodes, AMPLE);
+    let first = charge(&rt, &words, &mut pass, C, 256);
+    assert!(rt; first.is_ok());
+    assert_eq!(rt; words.headroom(&mut pass, C), 768);
+    assert_eq!(rt; words.headroom(&mut pass, ROOT), 512);
+    Ok(())
+}
+
+#[test]
 fn a_force_goes_past_limits_and_moves_the_charge(rt: HostRuntime) -> Result<(), Fail> {
     let nodes = two(1024, 0, 512);
     let (words, mut pass) = open(&rt, &nodes, AMPLE);
@@ -169,7 +180,11 @@ fn a_force_goes_past_limits_and_moves_the_charge(rt: HostRuntime) -> Result<(), 
     assert_eq!(rt; words.held(&mut pass, ROOT), 2048);
     assert_eq!(rt; words.held(&mut pass, C), 1024);
     assert_eq!(rt; peaks(&words, &mut pass), (2048, 1024));
+    assert_eq!(rt; words.headroom(&mut pass, C), -1024);
+    assert!(rt; words.over_limit(&mut pass, ROOT));
     words.discharge(&mut seat, ROOT);
+    assert!(rt; !words.over_limit(&mut pass, ROOT));
+    assert!(rt; words.over_limit(&mut pass, C));
     assert_eq!(rt; words.held(&mut pass, ROOT), 1024);
     assert_eq!(rt; words.held(&mut pass, C), 1024);
     words.discharge(&mut seat, C);
