@@ -39,7 +39,6 @@ struct Chunk {
 
 struct Words {
     words: Vec<AtomicU64>,
-    nodes: Vec<Node>,
 }
 
 fn held(level: usize) -> usize {
@@ -50,18 +49,32 @@ fn limit(level: usize) -> usize {
     16 * level + 33
 }
 
+fn peak(level: usize) -> usize {
+    16 * level + 34
+}
+
+fn reservation(level: usize) -> usize {
+    16 * level + 35
+}
+
+fn parent(level: usize) -> usize {
+    16 * level + 36
+}
+
 impl Words {
     fn open(nodes: Vec<Node>) -> Words {
         let words: Vec<AtomicU64> = (0..16 * nodes.len() + 32).map(|_| AtomicU64::new(0)).collect();
         words[NUMBER].store(1, SeqCst);
         for (level, node) in nodes.iter().enumerate().rev() {
             words[limit(level)].store(node.limit, SeqCst);
+            words[reservation(level)].store(node.reservation, SeqCst);
+            words[parent(level)].store(node.parent as u64, SeqCst);
             if level > 0 {
                 let counted = words[held(level)].load(SeqCst).max(node.reservation);
                 words[held(node.parent as usize)].fetch_add(counted, SeqCst);
             }
         }
-        Words { words, nodes }
+        Words { words }
     }
 
     fn charge(&self, at: u32, size: u64) -> Result<Chunk, Full> {
@@ -71,15 +84,19 @@ impl Words {
         loop {
             let found = self.words[held(level)].fetch_add(amount, SeqCst);
             let limit = self.words[limit(level)].load(SeqCst);
+            let reservation = self.words[reservation(level)].load(SeqCst);
+            let parent = self.words[parent(level)].load(SeqCst);
             if full.is_none() && found + amount > limit {
                 full = Some(Full { node: level as u32, held: found, amount, limit, local: level == at as usize });
             }
-            let node = &self.nodes[level];
-            let counted = (found + amount).max(node.reservation) - found.max(node.reservation);
+            if full.is_none() && self.words[peak(level)].load(SeqCst) < found + amount {
+                self.words[peak(level)].fetch_max(found + amount, SeqCst);
+            }
+            let counted = (found + amount).max(reservation) - found.max(reservation);
             if level == 0 || counted == 0 {
                 break;
             }
-            (level, amount) = (node.parent as usize, counted);
+            (level, amount) = (parent as usize, counted);
         }
         match full {
             None => {
@@ -100,12 +117,13 @@ impl Words {
         let (mut level, mut amount) = (at as usize, size);
         loop {
             let found = self.words[held(level)].fetch_sub(amount, SeqCst);
-            let node = &self.nodes[level];
-            let counted = found.max(node.reservation) - (found - amount).max(node.reservation);
+            let reservation = self.words[reservation(level)].load(SeqCst);
+            let parent = self.words[parent(level)].load(SeqCst);
+            let counted = found.max(reservation) - (found - amount).max(reservation);
             if level == 0 || counted == 0 {
                 break;
             }
-            (level, amount) = (node.parent as usize, counted);
+            (level, amount) = (parent as usize, counted);
         }
     }
 
