@@ -1,25 +1,19 @@
 -- Cells as they are printed, and the records of rows.
 use Rattle.std.proofs.Common.{◌≡◌, ◌≤◌, ◌<◌, ◌+◌, ◌-◌, ℕ, zero, suc, List, [], ◌∷◌, ◌++◌, length, take, drop, map, get_or, Bool, true}
-use Rattle.std.proofs.Common.{false, Option, Some, None, refl, sym, ap, ◌∙◌, arith, append_assoc}
-use Rattle.std.specs.Prelude.{flat_map, if◌then◌else◌}
+use Rattle.std.proofs.Common.{false, Option, Some, None, refl, sym, ap, ◌∙◌, arith}
+use Rattle.std.specs.Prelude.{if◌then◌else◌}
 use Rattle.std.specs.Io.KnownBytes.{Appends}
-use Rattle.std.proofs.lemmas.Grind.{flat_map-append}
-use Rattle.std.proofs.lemmas.List.{append-nil, get_or-drop, get_or-map, get_or-take, length-map, length-take, map-append, take_all}
+use Rattle.std.proofs.lemmas.List.{get_or-drop, get_or-map, get_or-take, length-map, length-take, map-append, take_all}
 use Rattle.std.proofs.lemmas.List.{take_more}
 use Rattle.csv.specs.Records.{Rising, cut_from, last_end}
-use Rattle.csv.specs.Writing.{default_writer, row_text}
 use Rattle.query_model.specs.Cells.{printed}
 use Rattle.query_model.specs.declared.cell.Cell.{Cell}
 use Rattle.query_model.specs.declared.cell.Cell.TheVariants.{Null, Text}
-use Rattle.row_text.specs.Answer.{fields_of_row, table_text}
+use Rattle.row_text.specs.Answer.{fields_of_row}
 use Rattle.row_text.specs.Rows.{AreLong, IsRange, IsStoredTable, Table, beside, cells_in, part_of, rows_from, table_of}
 use Rattle.row_text.specs.Stored.{AreTexts, ColumnCells, numbers, texts}
 use Rattle.row_text.proofs.TableLemmas.{long-head, long-tail, rows-length}
 use Rattle.row_text.proofs.SliceLemmas.{cuts-length, rising-within, stored-length}
-
--- the fields of rows
-abbrev fields_of_row_list : List (List Cell) → List (List (List ℕ))
-fields_of_row_list rows = map fields_of_row rows
 
 -- the number of a place, as it is printed
 pub number-printed : {N : Type 0} (cell : N → Cell) (values : List N) (known : List Bool) (place : ℕ) (d : N) → length values ≡ length known
@@ -202,21 +196,3 @@ names-more names n name old new within is e f =
 
 pub names-all : (names : List (List ℕ)) (n : ℕ) (fields : List (List ℕ)) → length names ≤ n → fields ≡ take n names → fields ≡ names
 names-all names n fields past e = e ∙ take_all n names past
-
--- a row more was written
-pub text-more : (header : List (List ℕ)) (rows : List (List Cell)) (n : ℕ) → n < length rows
-    → table_text header (take n rows) ++ row_text default_writer (fields_of_row (get_or rows n [])) ≡ table_text header (take (n + 1) rows)
-text-more header rows n within =
-    let one : fields_of_row_list (take (n + 1) rows) ≡ fields_of_row_list (take n rows) ++ fields_of_row (get_or rows n []) ∷ [] =
-    ap fields_of_row_list (take_more rows n [] within) ∙ map-append fields_of_row (take n rows) (get_or rows n [] ∷ []) in
-    let last : flat_map (row_text default_writer) (fields_of_row (get_or rows n []) ∷ []) ≡ row_text default_writer
-    (fields_of_row (get_or rows n [])) =
-    append-nil (row_text default_writer (fields_of_row (get_or rows n []))) in
-    let all : flat_map (row_text default_writer) (fields_of_row_list (take (n + 1) rows))
-    ≡ flat_map (row_text default_writer) (fields_of_row_list (take n rows)) ++ row_text default_writer (fields_of_row (get_or rows n [])) =
-    ap (flat_map (row_text default_writer)) one
-    ∙ flat_map-append (row_text default_writer) (fields_of_row_list (take n rows)) (fields_of_row (get_or rows n []) ∷ [])
-    ∙ ap (λ (t : List ℕ). flat_map (row_text default_writer) (fields_of_row_list (take n rows)) ++ t) last in
-    append_assoc (row_text default_writer header) (flat_map (row_text default_writer) (fields_of_row_list (take n rows)))
-    (row_text default_writer (fields_of_row (get_or rows n [])))
-    ∙ ap (λ (t : List ℕ). row_text default_writer header ++ t) (sym all)

@@ -13,7 +13,7 @@ mod refused;
 mod rows;
 mod rows_slice;
 
-pub use answer::answer_text;
+pub use answer::{answer_text, header_text, rows_text};
 pub use cell_column::CellColumn;
 pub use column_slice::ColumnSlice;
 pub use laws::{bytes_have_one_reading, written_rows_are_read_back};

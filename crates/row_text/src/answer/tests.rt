@@ -1,4 +1,4 @@
-use super::answer_text;
+use super::{answer_text, header_text, rows_text};
 use crate::read::read_rows;
 use query_model::{Column, Kind, Text};
 use std::alloc::{AllocError, Global};
@@ -55,5 +55,38 @@ fn an_answer_is_appended(rt: HostRuntime) -> Result<(), Fail> {
     let mut out = Vec::from_slice(a, b"answer\n")?;
     assert_eq!(rt; answer_text(a, &header, &rows.as_slice(), &mut out), Ok(()));
     assert_eq!(rt; out.as_slice(), b"answer\ntown\n\"\"\noslo\n".as_slice());
+    Ok(())
+}
+
+#[test]
+fn an_answer_is_written_batch_after_batch(rt: HostRuntime) -> Result<(), Fail> {
+    let a = rt.alloc();
+    let city = Column {
+        name: Text::new(a, "city")?,
+        kind: Kind::Text,
+    };
+    let number = Column {
+        name: Text::new(a, "mm")?,
+        kind: Kind::Int,
+    };
+    let header = [Text::new(a, "city")?, Text::new(a, "mm")?];
+    let table = b"city,mm\n\"a,b\",3\n\"\",\nbergen,-7\n".as_slice();
+    let rows = read_rows(a, &[city, number], table).expect(&rt, "a table");
+    assert_eq!(rt; rows.len(), 3);
+    let mut whole = Vec::new(a);
+    assert_eq!(rt;
+        answer_text(a, &header, &rows.as_slice(), &mut whole),
+        Ok(())
+    );
+    let mut out = Vec::new(a);
+    assert_eq!(rt; header_text(a, &header, &mut out), Ok(()));
+    assert_eq!(rt; out.as_slice(), b"city,mm\n".as_slice());
+    assert_eq!(rt; rows_text(a, &rows.part(0, 1), &mut out), Ok(()));
+    assert_eq!(rt; rows_text(a, &rows.part(1, 3), &mut out), Ok(()));
+    assert_eq!(rt;
+        out.as_slice(),
+        b"city,mm\n\"a,b\",3\n,\nbergen,-7\n".as_slice()
+    );
+    assert_eq!(rt; out.as_slice(), whole.as_slice());
     Ok(())
 }
