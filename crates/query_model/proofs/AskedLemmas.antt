@@ -1,12 +1,10 @@
 -- The calls of a query ask for the buffers that its batches are said to ask for, and for its reservations.
 use Rattle.std.specs.Prelude.{◌≡◌, ◌≢◌, ◌≤◌, ◌+◌, ◌*◌, ℕ, List, [], ◌∷◌, ◌++◌, map, flat_map, drop, length, sum, sum_by, All, refl}
 use Rattle.std.specs.List.{range_with_len}
-use Rattle.std.proofs.Common.{arith, ap, ◌∙◌}
+use Rattle.std.proofs.Common.{arith, ap, sym, ◌∙◌}
 use Rattle.std.proofs.lemmas.List.Elements.{All-head, All-tail, All-cons, All-nil, All-append, All-map}
 use Rattle.std.proofs.lemmas.List.Sums.{sum_by-append, sum_by-cons}
-use Rattle.mem_num.specs.Rounded.{rounded_size}
 use Rattle.mem_num.specs.declared.alloc_id.AllocId.{AllocId}
-use Rattle.mem_num.specs.declared.rounding.Rounding.TheVariants.{Power}
 use Rattle.mem_model.specs.Calls.{Child, Grant, Transfer, Release}
 use Rattle.mem_model.specs.PlannedCalls.{PlannedCall}
 use Rattle.query_model.specs.declared.cell.Cell.{Cell}
@@ -15,7 +13,7 @@ use Rattle.query_model.specs.declared.output.Output.{Output}
 use Rattle.query_model.specs.declared.output.Output.TheVariants.{Select, Group}
 use Rattle.query_model.specs.declared.plan.Plan.{Plan}
 use Rattle.query_model.specs.Answer.{answer_of}
-use Rattle.query_model.specs.Buffers.{buffer_lengths, sizes_of, buffer_sizes}
+use Rattle.query_model.specs.Buffers.{buffer_lengths, buffer_sizes}
 use Rattle.query_model.specs.Filter.{meeting}
 use Rattle.query_model.specs.Requests.{root_id, scan_id, filter_id, project_id, sums_id, result_id, kinds_of, answer_kinds, batches_of}
 use Rattle.query_model.specs.Requests.{group_sizes, rows_requests, buffer_requests, query_worst}
@@ -24,26 +22,17 @@ use Rattle.query_model.specs.SequentialCalls.{scan_places, filter_places, answer
 use Rattle.query_model.specs.SequentialCalls.{opening_calls, BatchCall, in_batch, calls_from, sequential_calls}
 use Rattle.query_model.proofs.CeilingLemmas.{amounts, sum-requests, sum-amounts, sum-rows}
 use Rattle.query_model.proofs.RoomLemmas.{asked_by, IsRoomy}
-use Rattle.query_model.proofs.RoundingLemmas.{sum-sizes_of}
+use Rattle.query_model.proofs.RoundingLemmas.{sizes-summed}
 use Rattle.query_model.proofs.WithinLemmas.{sum_by-map}
 
 -- the bytes that calls ask for
 abbrev asked : List PlannedCall → ℕ
 asked calls = sum_by asked_by calls
 
--- the sizes of buffers, the empty ones too
-sum-rounded : (lengths : List ℕ) → sum_by (rounded_size Power) lengths ≡ sum (sizes_of lengths)
-sum-rounded [] = refl
-sum-rounded (length ∷ lengths) =
-    let a = sum_by-cons (rounded_size Power) length lengths in
-    let b = sum-sizes_of length lengths in
-    let c = sum-rounded lengths in
-    omega (arith, a, b, c)
-
 -- buffers ask for their sizes
 asked-stored : (at : AllocId) (kinds : List Kind) (rows : List (List Cell))
     → asked (store_calls at kinds rows) ≡ sum (buffer_sizes kinds rows)
-asked-stored at kinds rows = sum_by-map asked_by (Grant at) (buffer_lengths kinds rows) ∙ sum-rounded (buffer_lengths kinds rows)
+asked-stored at kinds rows = sum_by-map asked_by (Grant at) (buffer_lengths kinds rows) ∙ sym (sizes-summed (buffer_lengths kinds rows))
 
 -- what is given back asks for nothing
 asked-released : (places : List ℕ) → asked (release_calls places) ≡ 0

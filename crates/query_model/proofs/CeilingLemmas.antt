@@ -53,7 +53,7 @@ sum_by-one [] = refl
 sum_by-one (x ∷ xs) = let a = sum_by-cons (λ (y : _). 1) x xs in let b = sum_by-one xs in omega (arith, a, b)
 
 -- keys in order are no more than all of them
-length-distinct : (keys : List Key) → length (distinct keys) ≤ length keys
+pub length-distinct : (keys : List Key) → length (distinct keys) ≤ length keys
 length-distinct keys =
     let a = sum_by-one (distinct keys) in let b = sum_by-one keys in let c = sum_by-distinct (λ key. 1) keys in omega (arith, a, b, c)
 
@@ -85,7 +85,7 @@ module _ (key : ℕ) (sums : List ℕ) where
   length-apart (row ∷ rows) = ap (λ n. suc n) (length-apart rows)
 
   -- their keys have as much text as the rows' keys
-  keys-apart : (rows : List (List Cell)) → texts_length (column_of 0 (apart rows)) ≡ sum_by (λ row. length (key_of key row)) rows
+  pub keys-apart : (rows : List (List Cell)) → texts_length (column_of 0 (apart rows)) ≡ sum_by (λ row. length (key_of key row)) rows
   keys-apart [] = refl
   keys-apart (row ∷ rows) =
       let a = sum_by-cons text_length (Text (key_of key row)) (column_of 0 (apart rows)) in
@@ -105,7 +105,7 @@ module _ (key : ℕ) (sums : List ℕ) where
       omega (arith, a, b, c)
 
   -- the groups of some rows have no more text than all rows apart
-  groups-texts : (rows many : List (List Cell)) → ((f : List Cell → ℕ) → sum_by f rows ≤ sum_by f many)
+  pub groups-texts : (rows many : List (List Cell)) → ((f : List Cell → ℕ) → sum_by f rows ≤ sum_by f many)
       → (column : ℕ) → texts_length (column_of column (groups_of key sums rows)) ≤ texts_length (column_of column (apart many))
   groups-texts rows many less zero =
       let keys = map (key_of key) rows in

@@ -1,7 +1,7 @@
 -- Longer buffers are charged no less.
 use Rattle.std.proofs.Common.{◌≡◌, ℕ, zero, suc, ◌+◌, ◌^◌, ◌≤◌, ◌<◌, ◌∙◌, refl, arith, inl, inr, leb, ltb, true, false, lit≤}
 use Rattle.std.proofs.Common.{ap, sym}
-use Rattle.std.specs.Prelude.{List, ◌∷◌, map, filter, sum, nat_lt, cond}
+use Rattle.std.specs.Prelude.{List, [], ◌∷◌, map, filter, sum, sum_by, nat_lt, cond}
 use Rattle.std.proofs.lemmas.Bool.{cases_lt}
 use Rattle.std.proofs.lemmas.Bool.Decides.{nat_tests}
 use Rattle.std.proofs.Math.Nat.{pow-le-pow_right}
@@ -95,3 +95,12 @@ sum-sizes_of (suc n) lengths =
     let rest : List ℕ = filter (nat_lt 0) lengths in
     ap (λ passes. sum (map (rounded_size Power) (cond passes (suc n ∷ rest) rest))) some
     ∙ sum_by-cons (λ size. size) (rounded_size Power (suc n)) (sizes_of lengths)
+
+-- the sizes of buffers together, the empty ones too
+pub sizes-summed : (lengths : List ℕ) → sum (sizes_of lengths) ≡ sum_by (rounded_size Power) lengths
+sizes-summed [] = refl
+sizes-summed (length ∷ lengths) =
+    let a = sum_by-cons (rounded_size Power) length lengths in
+    let b = sum-sizes_of length lengths in
+    let c = sizes-summed lengths in
+    omega (arith, a, b, c)

@@ -58,7 +58,7 @@ sizes-within (low ∷ lows) (high ∷ highs) h =
     omega (arith, first, second, one, rest)
 
 -- what bounds the greater numbers bounds the lesser ones
-at_most-bound : (most : ℕ) (lows highs : List ℕ) → AreAtMost lows highs → All (λ n. n ≤ most) highs → All (λ n. n ≤ most) lows
+pub at_most-bound : (most : ℕ) (lows highs : List ℕ) → AreAtMost lows highs → All (λ n. n ≤ most) highs → All (λ n. n ≤ most) lows
 at_most-bound most [] [] h all = λ i d within. absurd (omega (arith, within))
 at_most-bound most (low ∷ lows) [] h all = absurd h
 at_most-bound most [] (high ∷ highs) h all = absurd h

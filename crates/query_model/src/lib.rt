@@ -49,7 +49,8 @@ pub use query_laws::{
     answers_do_not_depend_on_batches, answers_do_not_depend_on_cuts, batches_are_the_rows,
 };
 pub use request_laws::{
-    adequate_limits_never_refuse, fewer_rows_have_shorter_buffers, needs_are_within_their_ceiling,
+    adequate_limits_never_refuse, fewer_rows_have_shorter_buffers, groups_have_short_buffers,
+    needs_are_within_their_ceiling, parts_have_shorter_buffers,
 };
 pub use requests::{
     FILTER, PROJECT, RESULT, SCAN, SUMS, batch_count, batch_rows, requests_of, result_sizes,
