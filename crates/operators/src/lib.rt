@@ -23,6 +23,7 @@ pub use merging::merge_groups;
 pub use merging_picked::merge_picked;
 pub use projecting::project;
 pub use scanning::scan;
+pub use storing_instead::release_batches;
 
 #[cfg(test)]
 mod tests;

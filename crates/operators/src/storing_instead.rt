@@ -64,7 +64,7 @@ pub(crate) fn store_instead_of_all<M: Memory>(
 }
 
 /// Releases the holds of batches, one batch after the other. Takes no memory.
-pub(crate) fn release_batches<M: Memory>(mem: &M, token: &mut M::Token, input: Vec<Batch<M::Hold>>)
+pub fn release_batches<M: Memory>(mem: &M, token: &mut M::Token, input: Vec<Batch<M::Hold>>)
     ensures calls { Runs M.model (GivesBack (references_of M.model.reference input.items)) token.old token.new }
 {
     release_left(mem, token, input.into_iter());
