@@ -1,0 +1,26 @@
+-- The lemmas of this crate, those first that others stand on.
+pub mod CountedLemmas
+pub mod ClosingLemmas
+pub mod OpeningLemmas
+pub mod PlannedLemmas
+pub mod HoldingLemmas
+pub mod StoredLemmas
+pub mod UnmovedLemmas
+pub mod PickLemmas
+pub mod PlaceLemmas
+pub mod TokenLemmas
+pub mod BatchLemmas
+pub mod RunLemmas
+pub mod BudgetLemmas
+pub mod RefusalLemmas
+pub mod OperatorLemmas
+pub mod BatchesLemmas
+pub mod PartsLemmas
+pub mod SoloRunLemmas
+pub mod BatchRunsLemmas
+pub mod MergeLemmas
+pub mod MergeCallsLemmas
+pub mod PrintLemmas
+pub mod ResultLemmas
+pub mod QueryLemmas
+pub mod FirstRefusalLemmas
