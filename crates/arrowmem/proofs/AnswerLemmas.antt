@@ -1,79 +1,116 @@
--- Words have one answer.
-use Rattle.std.proofs.Common.{◌≡◌, ◌≢◌, ℕ, List, Some, None, Ok, Err, refl, ap, ◌∙◌, subst}
+-- Words have one answer, file by file.
+use Rattle.std.proofs.Common.{◌≡◌, ℕ, List, refl, ap, subst}
 use Rattle.std.specs.Str.Lines.{lines}
-use Rattle.mem_io.specs.Shelf.{Told, reading}
-use Rattle.mem_io.specs.declared.shelf.ShelfFault.TheVariants.{Failed, TooLong as Longer}
-use Rattle.script.specs.Grammar.{ScriptParts, IsScript, IsFirstUnreadable, TextsHaveOneReading}
+use Rattle.mem_io.specs.Shelf.{Told, after_call}
+use Rattle.mem_io.specs.declared.shelf.ShelfFault.{ShelfFault}
+use Rattle.query_model.specs.declared.cell.Cell.{Cell}
+use Rattle.query_model.specs.declared.column.Column.{Column}
+use Rattle.query_model.specs.declared.plan.Plan.{Plan}
+use Rattle.row_text.specs.Table.{IsTable, IsFirstBad}
+use Rattle.plan_text.specs.Plans.{IsPlanText}
+use Rattle.script.specs.Grammar.{TextsHaveOneReading}
 use Rattle.script.specs.Trace.{trace_text}
 use Rattle.script.specs.declared.form.Form.TheVariants.{Trace}
-use Rattle.arrowmem.specs.Words.{trace_file}
-use Rattle.arrowmem.specs.RunsTo.{Answers, done, usage, unreadable, read_fault, too_long, no_memory, file_line, unreadable_text, max_input, usage_text, WordsHaveOneAnswer}
+use Rattle.arrowmem.specs.Answers.{FaultAnswers, ScriptAnswers, RowsAnswer, TableAnswers, PlanAnswers}
+use Rattle.arrowmem.specs.Answers.{read_fault, too_long, done, unreadable, fault, limit, bad_row, bad_plan}
+use Rattle.arrowmem.specs.Answers.{usage, traced, queried, no_memory}
+use Rattle.arrowmem.specs.Answers.{rows as is_table, plan as is_plan}
+use Rattle.arrowmem.specs.Files.{Input, input_of}
+use Rattle.arrowmem.specs.Lines.{unreadable_text, bad_row_text, refusal_text}
+use Rattle.arrowmem.specs.RunsTo.{WordsHaveOneAnswer}
 use Rattle.arrowmem.specs.declared.status.Status.{Status}
-use Rattle.arrowmem.specs.declared.status.Status.TheVariants as status
-use Rattle.std.proofs.Common.{codes}
 
-module _ (texts : TextsHaveOneReading) (words : List (List ℕ)) (files : Told) where
-  -- an input is a script, and no other answer fits
-  done_once : (name input : List ℕ) (script : ScriptParts) (other : Status) (output : List ℕ) → trace_file words ≡ Some name → reading files name max_input ≡ Ok input → IsScript Trace (lines input) script
-      → Answers words files other output → other ≢ status.NoMemory → (status.Done ≡ other) × (trace_text script ≡ output)
-  done_once name input script _ _ named given is (done {name = n} {input = i} {script = s} named' given' is') memory =
-      let same : i ≡ input = cc in
-      (refl, ap trace_text (texts.script Trace (lines input) script s is (subst (λ j. IsScript Trace (lines j) s) same is')))
-  done_once name input script _ _ named given is (usage none) memory = absurd cc
-  done_once name input script _ _ named given is (unreadable {name = n} {input = i} {line = l} named' given' first) memory =
-      let same : input ≡ i = cc in absurd (texts.apart Trace (lines i) l first script (subst (λ j. IsScript Trace (lines j) script) same is))
-  done_once name input script _ _ named given is (read_fault named' given') memory = absurd cc
-  done_once name input script _ _ named given is (too_long named' given') memory = absurd cc
-  done_once name input script _ _ named given is no_memory memory = absurd (memory refl)
+-- two answers are the same
+abbrev AreSame : Status → Status → List ℕ → List ℕ → Type 0
+AreSame one other output output' = (one ≡ other) × (output ≡ output')
 
-  -- words have no reading
-  usage_once : (other : Status) (output : List ℕ) → trace_file words ≡ None → Answers words files other output → other ≢ status.NoMemory → (status.Usage ≡ other) × (usage_text ≡ output)
-  usage_once _ _ none (done named given is) memory = absurd cc
-  usage_once _ _ none (usage none') memory = (refl, refl)
-  usage_once _ _ none (unreadable named given is) memory = absurd cc
-  usage_once _ _ none (read_fault named given) memory = absurd cc
-  usage_once _ _ none (too_long named given) memory = absurd cc
-  usage_once _ _ none no_memory memory = absurd (memory refl)
+-- a fault has one answer
+fault_once : (name : List ℕ) (why : ShelfFault) (one other : Status) (output output' : List ℕ)
+    → FaultAnswers name why one output → FaultAnswers name why other output' → AreSame one other output output'
+fault_once name _ _ _ _ _ read_fault read_fault = (refl, refl)
+fault_once name _ _ _ _ _ too_long too_long = (refl, refl)
 
-  -- an input has a first unreadable line
-  unreadable_once : (name input : List ℕ) (line : ℕ) (other : Status) (output : List ℕ) → trace_file words ≡ Some name → reading files name max_input ≡ Ok input → IsFirstUnreadable Trace (lines input) line
-      → Answers words files other output → other ≢ status.NoMemory → (status.Unreadable ≡ other) × (unreadable_text name line ≡ output)
-  unreadable_once name input line _ _ named given first (done {name = n} {input = i} {script = s} named' given' is) memory =
-      let same : i ≡ input = cc in absurd (texts.apart Trace (lines input) line first s (subst (λ j. IsScript Trace (lines j) s) same is))
-  unreadable_once name input line _ _ named given first (usage none) memory = absurd cc
-  unreadable_once name input line _ _ named given first (unreadable {name = n} {input = i} {line = l} named' given' first') memory =
-      let same : i ≡ input = cc in
-      let named_same : name ≡ n = cc in
-      let line_same : line ≡ l = texts.line Trace (lines input) line l first (subst (λ j. IsFirstUnreadable Trace (lines j) l) same first') in
-      (refl, ap (λ n. unreadable_text n line) named_same ∙ ap (unreadable_text n) line_same)
-  unreadable_once name input line _ _ named given first (read_fault named' given') memory = absurd cc
-  unreadable_once name input line _ _ named given first (too_long named' given') memory = absurd cc
-  unreadable_once name input line _ _ named given first no_memory memory = absurd (memory refl)
+-- an input has one answer as a script
+script_once : TextsHaveOneReading → (name : List ℕ) (input : Input) (one other : Status) (output output' : List ℕ)
+    → ScriptAnswers name input one output → ScriptAnswers name input other output' → AreSame one other output output'
+script_once texts name _ _ _ _ _ (done {bytes = b} {script = s} is) (done {script = t} is') =
+    (refl, ap trace_text (texts.script Trace (lines b) s t is is'))
+script_once texts name _ _ _ _ _ (done {bytes = b} {script = s} is) (unreadable {line = l} first) =
+    absurd (texts.apart Trace (lines b) l first s is)
+script_once texts name _ _ _ _ _ (unreadable {bytes = b} {line = l} first) (done {script = s} is) =
+    absurd (texts.apart Trace (lines b) l first s is)
+script_once texts name _ _ _ _ _ (unreadable {bytes = b} {line = l} first) (unreadable {line = m} first') =
+    (refl, ap (unreadable_text name) (texts.line Trace (lines b) l m first first'))
+script_once texts name _ _ _ _ _ (fault one) (fault other) = fault_once name _ _ _ _ _ one other
 
-  -- an input can't be read
-  fault_once : (name : List ℕ) (other : Status) (output : List ℕ) → trace_file words ≡ Some name → reading files name max_input ≡ Err Failed → Answers words files other output → other ≢ status.NoMemory
-      → (status.ReadFault ≡ other) × (file_line (codes "read fault: ") name ≡ output)
-  fault_once name _ _ named given (done named' given' is) memory = absurd cc
-  fault_once name _ _ named given (usage none') memory = absurd cc
-  fault_once name _ _ named given (unreadable named' given' none') memory = absurd cc
-  fault_once name _ _ named given (read_fault {name = n} named' given') memory = let same : name ≡ n = cc in (refl, ap (file_line (codes "read fault: ")) same)
-  fault_once name _ _ named given (too_long named' given') memory = absurd cc
-  fault_once name _ _ named given no_memory memory = absurd (memory refl)
+-- rows have one answer
+rows_once : (query : Plan) (table : List (List Cell)) (one other : Status) (output output' : List ℕ)
+    → RowsAnswer query table one output → RowsAnswer query table other output' → AreSame one other output output'
+rows_once query table _ _ _ _ (done granted) (done granted') = (refl, refl)
+rows_once query table _ _ _ _ (done granted) (limit refused) = absurd cc
+rows_once query table _ _ _ _ (limit refused) (done granted) = absurd cc
+rows_once query table _ _ _ _ (limit {refusal = r} refused) (limit {refusal = s} refused') =
+    let same : r ≡ s = cc in (refl, ap refusal_text same)
 
-  -- an input is too long
-  long_once : (name : List ℕ) (other : Status) (output : List ℕ) → trace_file words ≡ Some name → reading files name max_input ≡ Err Longer → Answers words files other output → other ≢ status.NoMemory
-      → (status.TooLong ≡ other) × (file_line (codes "too long: ") name ≡ output)
-  long_once name _ _ named given (done named' given' is) memory = absurd cc
-  long_once name _ _ named given (usage none') memory = absurd cc
-  long_once name _ _ named given (unreadable named' given' none') memory = absurd cc
-  long_once name _ _ named given (read_fault named' given') memory = absurd cc
-  long_once name _ _ named given (too_long {name = n} named' given') memory = let same : name ≡ n = cc in (refl, ap (file_line (codes "too long: ")) same)
-  long_once name _ _ named given no_memory memory = absurd (memory refl)
+-- bytes are one table at most, or have one first bad row and are none
+pub record TablesHaveOneReading : Type 0 where
+  pub table : (columns : List Column) (bytes : List ℕ) (one other : List (List Cell))
+      → IsTable columns bytes one → IsTable columns bytes other → one ≡ other
+  pub row : (columns : List Column) (bytes : List ℕ) (one other : ℕ)
+      → IsFirstBad columns bytes one → IsFirstBad columns bytes other → one ≡ other
+  pub apart : (columns : List Column) (bytes : List ℕ) (table : List (List Cell)) (row : ℕ)
+      → IsTable columns bytes table → IsFirstBad columns bytes row → ⊥
 
-pub one_answer : TextsHaveOneReading → WordsHaveOneAnswer
-one_answer texts words files _ other _ output' (done {name = n} {input = i} {script = s} named given is) answers memory memory' = done_once texts words files n i s other output' named given is answers memory'
-one_answer texts words files _ other _ output' (usage none) answers memory memory' = usage_once texts words files other output' none answers memory'
-one_answer texts words files _ other _ output' (unreadable {name = n} {input = i} {line = l} named given first) answers memory memory' = unreadable_once texts words files n i l other output' named given first answers memory'
-one_answer texts words files _ other _ output' (read_fault {name = n} named given) answers memory memory' = fault_once texts words files n other output' named given answers memory'
-one_answer texts words files _ other _ output' (too_long {name = n} named given) answers memory memory' = long_once texts words files n other output' named given answers memory'
-one_answer texts words files _ other _ output' no_memory answers memory memory' = absurd (memory refl)
+-- an input has one answer as the table of a plan
+table_once : TablesHaveOneReading → (query : Plan) (name : List ℕ) (input : Input) (one other : Status) (output output' : List ℕ)
+    → TableAnswers query name input one output → TableAnswers query name input other output' → AreSame one other output output'
+table_once tables query name _ _ other _ output' (is_table {bytes = b} {rows = r} is answer) (is_table {rows = s} is' answer') =
+    let same : s ≡ r = tables.table query.columns b s r is' is in
+    rows_once query r _ _ _ _ answer (subst (λ table. RowsAnswer query table other output') same answer')
+table_once tables query name _ _ _ _ _ (is_table {bytes = b} {rows = r} is answer) (bad_row row bad) =
+    absurd (tables.apart query.columns b r row is bad)
+table_once tables query name _ _ _ _ _ (bad_row row bad) (is_table {bytes = b} {rows = r} is answer) =
+    absurd (tables.apart query.columns b r row is bad)
+table_once tables query name _ _ _ _ _ (bad_row {bytes = b} row bad) (bad_row row' bad') =
+    (refl, ap (bad_row_text name) (tables.row query.columns b row row' bad bad'))
+table_once tables query name _ _ _ _ _ (fault one) (fault other) = fault_once name _ _ _ _ _ one other
+
+-- bytes are one plan at most
+abbrev pub BytesAreOnePlan : Type 0
+BytesAreOnePlan = (bytes : List ℕ) (one other : Plan) → IsPlanText bytes one → IsPlanText bytes other → one ≡ other
+
+-- an input has one answer as a plan
+plan_once : BytesAreOnePlan → TablesHaveOneReading → (files : Told) (name table : List ℕ) (input : Input)
+    (one other : Status) (output output' : List ℕ)
+    → PlanAnswers files name table input one output → PlanAnswers files name table input other output' → AreSame one other output output'
+plan_once plans tables files name table _ _ other _ output' (is_plan {bytes = b} {plan = p} is answer) (is_plan {plan = q} is' answer') =
+    let same : q ≡ p = plans b q p is' is in
+    table_once tables p table _ _ _ _ _ answer
+    (subst (λ query. TableAnswers query table (input_of (after_call files) table) other output') same answer')
+plan_once plans tables files name table _ _ _ _ _ (is_plan {plan = p} is answer) (bad_plan none) = absurd (none p is)
+plan_once plans tables files name table _ _ _ _ _ (bad_plan none) (is_plan {plan = p} is answer) = absurd (none p is)
+plan_once plans tables files name table _ _ _ _ _ (bad_plan none) (bad_plan none') = (refl, refl)
+plan_once plans tables files name table _ _ _ _ _ (fault one) (fault other) = fault_once name _ _ _ _ _ one other
+
+-- words name one command at most, and this has one answer but for want of memory
+pub one_answer : TextsHaveOneReading → BytesAreOnePlan → TablesHaveOneReading → WordsHaveOneAnswer
+one_answer texts plans tables words files _ _ _ _ no_memory answer memory memory' = absurd (memory refl)
+one_answer texts plans tables words files _ _ _ _ answer no_memory memory memory' = absurd (memory' refl)
+one_answer texts plans tables words files _ _ _ _ (usage none) (usage none') memory memory' = (refl, refl)
+one_answer texts plans tables words files _ _ _ _ (usage none) (traced named answer) memory memory' = absurd cc
+one_answer texts plans tables words files _ _ _ _ (usage none) (queried named answer) memory memory' = absurd cc
+one_answer texts plans tables words files _ _ _ _ (traced named answer) (usage none) memory memory' = absurd cc
+one_answer texts plans tables words files _ other _ output'
+    (traced {name = n} named answer) (traced {name = m} named' answer') memory memory' =
+    let same : m ≡ n = cc in
+    script_once texts n _ _ _ _ _ answer (subst (λ name. ScriptAnswers name (input_of files name) other output') same answer')
+one_answer texts plans tables words files _ _ _ _ (traced named answer) (queried named' answer') memory memory' = absurd cc
+one_answer texts plans tables words files _ _ _ _ (queried named answer) (usage none) memory memory' = absurd cc
+one_answer texts plans tables words files _ _ _ _ (queried named answer) (traced named' answer') memory memory' = absurd cc
+one_answer texts plans tables words files _ other _ output'
+    (queried {plan = p} {table = t} named answer) (queried {plan = q} {table = u} named' answer') memory memory' =
+    let same_plan : q ≡ p = cc in
+    let same_table : u ≡ t = cc in
+    plan_once plans tables files p t _ _ _ _ _ answer
+    (subst (λ table. PlanAnswers files p table (input_of files p) other output') same_table
+    (subst (λ name. PlanAnswers files name u (input_of files name) other output') same_plan answer'))

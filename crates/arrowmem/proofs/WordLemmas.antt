@@ -9,6 +9,7 @@ pub words_without-text : (kind : ErrorKind) → kind ≢ OutOfMemory → words_w
 words_without-text OutOfMemory other = absurd (other refl)
 words_without-text kind other = refl
 
--- what holds of no words at all holds of the words that stand for these
-pub at_no_words : (words : Option (List (List ℕ))) (P : List (List ℕ) → Type 0) → words ≡ Some [] → P [] → IfSome words P
-at_no_words words P none holds = subst (λ w. IfSome w P) (sym none) holds
+-- what holds of words holds of those that stand for the arguments
+pub at_words : (words : Option (List (List ℕ))) (given : List (List ℕ)) (P : List (List ℕ) → Type 0) → words ≡ Some given → P given
+    → IfSome words P
+at_words words given P is holds = subst (λ w. IfSome w P) (sym is) holds

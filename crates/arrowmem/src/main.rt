@@ -1,9 +1,12 @@
-//! The command `arrowmem`: scripts, and later queries, over a tree of allocators.
+//! The command `arrowmem`: scripts and queries over a tree of allocators.
 #![tactic(auto)]
 
+mod answer;
 mod command;
 mod laws;
 mod program;
+mod query;
+mod say;
 mod status;
 mod top;
 

@@ -4,7 +4,8 @@ ghost use Rattle.std.specs.Process.{exit_status};
 ghost use Rattle.mem_io.specs.Faults.{Rose};
 ghost use Rattle.arrowmem.specs.Status.{code_of};
 ghost use Rattle.arrowmem.specs.Words as spec;
-ghost use Rattle.arrowmem.specs.RunsTo.{Delivers, RunsTo, Writes, no_memory_text};
+ghost use Rattle.arrowmem.specs.Lines.{no_memory_text};
+ghost use Rattle.arrowmem.specs.RunsTo.{Delivers, IsQuery, RunsTo, Writes};
 ghost use Rattle.arrowmem.specs.declared.status.Status.{Status as AnyStatus};
 ghost use Rattle.arrowmem.specs.declared.status.Status.TheVariants.{NoMemory};
 
@@ -33,9 +34,12 @@ pub(crate) fn run<H: Shelf, K: Sink>(
     ensures unasked { IfNone (spec.words_of arguments) (shelf.new ≡ shelf.old) }
 
     // The usage line stands for words without a reading, and for no others.
-    ensures usage { exit_status result ≡ 2 → IsSomeAnd (spec.words_of arguments) (λ words. spec.trace_file words ≡ None) }
+    ensures usage { exit_status result ≡ 2 → IsSomeAnd (spec.words_of arguments) (λ words. spec.command_of words ≡ None) }
     ensures no_reading { IfSome (spec.words_of arguments) (λ words.
-        spec.trace_file words ≡ None → exit_status result ≢ 6 → exit_status result ≢ 8 → exit_status result ≡ 2) }
+        spec.command_of words ≡ None → exit_status result ≢ 6 → exit_status result ≢ 8 → exit_status result ≡ 2) }
+
+    // A refusal at a limit stands for a query.
+    ensures limit { exit_status result ≡ 4 → IsSomeAnd (spec.words_of arguments) IsQuery }
 
     // The statuses of faults, as of `arrowmem`, also where memory didn't suffice for the arguments.
     ensures read_fault { exit_status result ≡ 5 → Rose (H.fault_count shelf.old) (H.fault_count shelf.new) }

@@ -11,6 +11,8 @@ pub enum Status {
     Usage,
     /// The input has no reading.
     Unreadable,
+    /// A request would have taken an allocator past its limit.
+    Limit,
     /// The input could not be read.
     ReadFault,
     /// The output could not be written.
@@ -29,6 +31,7 @@ impl Status {
             Status::Done => 0,
             Status::Usage => 2,
             Status::Unreadable => 3,
+            Status::Limit => 4,
             Status::ReadFault => 5,
             Status::WriteFault => 6,
             Status::TooLong => 7,

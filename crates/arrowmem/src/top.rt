@@ -1,25 +1,24 @@
 //! The top call: words in, a status and the bytes of an output out.
-ghost use Rattle.std.specs.Prelude.{◌≡◌, ◌≢◌, ◌↔◌, ◌++◌, ℕ, List, [], Some, None, map, string_bytes, IfOk, IfSome, OnOk, true};
+ghost use Rattle.std.specs.Prelude.{◌≡◌, ◌≢◌, ◌++◌, ℕ, List, Some, None, map, string_bytes, IfSome, true};
 ghost use Rattle.mem_io.specs.Faults.{Rose, fails_next, plan_after};
 ghost use Rattle.mem_io.specs.Shelf.{after_call};
+ghost use Rattle.query_model.specs.declared.cell.Cell.{Cell};
+ghost use Rattle.query_model.specs.declared.plan.Plan.{Plan as AnyPlan};
+ghost use Rattle.leak_report.specs.LawfulReport.{IsLawfulReport};
+ghost use Rattle.pipeline.specs.Query.{query_report};
 ghost use Rattle.arrowmem.specs.Status.{code_of};
+ghost use Rattle.arrowmem.specs.Files.{PlanFile};
+ghost use Rattle.arrowmem.specs.Lines.{no_memory_text};
+ghost use Rattle.arrowmem.specs.RunsTo.{Delivers, HasRows, IsAsked, IsQuery, RunsTo, Writes};
+ghost use Rattle.arrowmem.specs.Steps.{EndsAs, IsPlanned};
 ghost use Rattle.arrowmem.specs.Words as spec;
-ghost use Rattle.arrowmem.specs.RunsTo.{Answers, Delivers, RunsTo, Writes, file_line, unreadable_text, no_memory_text};
-ghost use Rattle.arrowmem.specs.Steps.{EndsAs, IsPlanned, TracesTo};
 ghost use Rattle.arrowmem.specs.declared.status.Status.{Status as AnyStatus};
 
-use crate::command::trace_file;
+use crate::answer::answer;
 use crate::status::Status;
 use gate::Gate;
-use mem_io::{Shelf, ShelfFault, Sink, SinkFault};
-use script::{ScriptRefused, run_trace};
-use std::alloc::{AllocError, Global};
-
-/// The most bytes that an input may have.
-const MAX_INPUT: u64 = 67_108_864;
-
-const USAGE: &str =
-    "usage: arrowmem trace FILE | drive FILE | query PLAN DATA [--workers N] | gen SEED ROWS WORKERS\n";
+use mem_io::{Shelf, Sink, SinkFault};
+use std::alloc::Global;
 
 const NO_MEMORY: &str = "no memory\n";
 
@@ -30,15 +29,20 @@ pub fn arrowmem<H: Shelf, K: Sink, G: Gate>(
     words: &[String],
     shelf: &mut H,
     out: &mut K,
-    _gate: &G,
+    gate: &G,
 ) -> u8
     // Over a shelf that tells its files, the status and the bytes written are those that the words and the files have.
     ensures runs { IfSome (H.told shelf.old) (λ files. (ended : AnyStatus) × (bytes : List ℕ) × (result ≡ code_of ended)
         × RunsTo (map string_bytes words.now) files ended bytes × Writes (K.written out.old) (K.written out.new) bytes) }
 
     // The usage line stands for words without a reading, and for no others.
-    ensures usage { result ≡ 2 → spec.trace_file (map string_bytes words.now) ≡ None }
-    ensures no_reading { spec.trace_file (map string_bytes words.now) ≡ None → result ≢ 6 → result ≢ 8 → result ≡ 2 }
+    ensures usage { result ≡ 2 → spec.command_of (map string_bytes words.now) ≡ None }
+    ensures no_reading { spec.command_of (map string_bytes words.now) ≡ None → result ≢ 6 → result ≢ 8 → result ≡ 2 }
+
+    // A refusal at a limit stands for a query; and the report of a query that ended well is lawful.
+    ensures limit { result ≡ 4 → IsQuery (map string_bytes words.now) }
+    ensures lawful { IfSome (H.told shelf.old) (λ files. result ≡ 0 → (plan : AnyPlan) (rows : List (List Cell))
+        → HasRows (map string_bytes words.now) files plan rows → IsLawfulReport (query_report plan rows)) }
 
     // A read fault was counted by the shelf, and a write fault by the sink.
     ensures read_fault { result ≡ 5 → Rose (H.fault_count shelf.old) (H.fault_count shelf.new) }
@@ -48,10 +52,14 @@ pub fn arrowmem<H: Shelf, K: Sink, G: Gate>(
     ensures write_told { K.fault_count out.new ≢ K.fault_count out.old → result ≡ 6 }
     ensures read_told { H.fault_count shelf.new ≢ H.fault_count shelf.old → result ≢ 6 → result ≢ 8 → result ≡ 5 }
 
-    // The shelf is asked once, or not at all where the words have no reading; the sink is called once.
-    ensures unasked { spec.trace_file (map string_bytes words.now) ≡ None → shelf.new ≡ shelf.old }
-    ensures asked { IfSome (H.told shelf.old) (λ files.
-        spec.trace_file (map string_bytes words.now) ≢ None → H.told shelf.new ≡ Some (after_call files)) }
+    // Where the words have no reading the shelf is left alone. For a query it is asked for the table only if it gave a plan, and then
+    // always, unless the sink failed or memory ran out. The sink is called once.
+    ensures unasked { spec.command_of (map string_bytes words.now) ≡ None → shelf.new ≡ shelf.old }
+    ensures asked { IfSome (H.told shelf.old) (λ files. spec.command_of (map string_bytes words.now) ≢ None
+        → IsAsked (map string_bytes words.now) files (H.told shelf.new)) }
+    ensures table_asked { IfSome (H.told shelf.old) (λ files. (plan table : List ℕ) (read : AnyPlan)
+        → spec.command_of (map string_bytes words.now) ≡ Some (spec.query plan table) → PlanFile files plan read
+        → result ≢ 6 → result ≢ 8 → H.told shelf.new ≡ Some (after_call (after_call files))) }
     ensures called { IfSome (K.fault_plan out.old) (λ plan. K.fault_plan out.new ≡ Some (plan_after plan)) }
 
     // Where the sink tells which calls are to fail, the status is that of a write fault just for these.
@@ -59,7 +67,7 @@ pub fn arrowmem<H: Shelf, K: Sink, G: Gate>(
     ensures faulty { IfSome (K.fault_plan out.old) (λ plan. fails_next plan ≡ true → result ≢ 8 → result ≡ 6) }
 {
     let mut output = Vec::new(alloc);
-    let Ok(status) = answer(alloc, words, shelf, &mut output) else {
+    let Ok(status) = answer(alloc, words, shelf, gate, &mut output) else {
         return end_without_memory(out).code();
     };
     deliver(out, status, &output).code()
@@ -89,75 +97,6 @@ fn deliver<K: Sink>(out: &mut K, status: Status, output: &[u8]) -> Status
         Err(SinkFault::Failed) => Status::WriteFault,
         Err(SinkFault::NoMemory) => Status::NoMemory,
     }
-}
-
-// The status and the output of the words, over the shelf.
-fn answer<H: Shelf>(
-    alloc: Global,
-    words: &[String],
-    shelf: &mut H,
-    out: &mut Vec<u8>,
-) -> Result<Status, AllocError>
-    requires { out.old.items ≡ [] }
-    ensures answers { IfOk result (λ status. IfSome (H.told shelf.old) (λ files.
-        Answers (map string_bytes words.now) files status out.new.items)) }
-    ensures usage { IfOk result (λ status. (status ≡ Status.Usage) ↔ (spec.trace_file (map string_bytes words.now) ≡ None)) }
-    ensures read_fault { IfOk result (λ status. status ≡ Status.ReadFault → Rose (H.fault_count shelf.old) (H.fault_count shelf.new)) }
-    ensures read_told { IfOk result (λ status. H.fault_count shelf.new ≢ H.fault_count shelf.old → status ≡ Status.ReadFault) }
-    ensures write_fault { IfOk result (λ status. status ≢ Status.WriteFault) }
-    ensures memory { IfOk result (λ status. status ≢ Status.NoMemory) }
-    ensures unasked { spec.trace_file (map string_bytes words.now) ≡ None → shelf.new ≡ shelf.old }
-    ensures asked { IfSome (H.told shelf.old) (λ files.
-        spec.trace_file (map string_bytes words.now) ≢ None → H.told shelf.new ≡ Some (after_call files)) }
-{
-    let Some(file) = trace_file(words) else {
-        out.extend_from_slice(USAGE.as_bytes())?;
-        return Ok(Status::Usage);
-    };
-    let mut input = Vec::new(alloc);
-    match shelf.read(file, &mut input, MAX_INPUT) {
-        Ok(()) => trace(alloc, file, &input, out),
-        Err(ShelfFault::Failed) => {
-            say(alloc, out, "read fault: ", file)?;
-            Ok(Status::ReadFault)
-        }
-        Err(ShelfFault::TooLong) => {
-            say(alloc, out, "too long: ", file)?;
-            Ok(Status::TooLong)
-        }
-        Err(ShelfFault::NoMemory) => Err(AllocError),
-    }
-}
-
-// Runs a trace that was read.
-fn trace(alloc: Global, file: &str, input: &[u8], out: &mut Vec<u8>) -> Result<Status, AllocError>
-    requires { out.old.items ≡ [] }
-    ensures { IfOk result (TracesTo file.now input.now out.new.items) }
-{
-    match run_trace(alloc, input, out) {
-        Ok(()) => Ok(Status::Done),
-        Err(ScriptRefused::Bad { line }) => {
-            say_unreadable(alloc, out, file, line)?;
-            Ok(Status::Unreadable)
-        }
-        Err(ScriptRefused::NoMemory) => Err(AllocError),
-    }
-}
-
-// Adds a line on a file.
-fn say(alloc: Global, out: &mut Vec<u8>, what: &str, file: &str) -> Result<(), AllocError>
-    ensures { OnOk result (out.new.items ≡ out.old.items ++ file_line what.now file.now) }
-{
-    let text = format!(in alloc; "{what}{file}\n")?;
-    out.extend_from_slice(text.as_bytes())
-}
-
-// Adds the line on the first unreadable line of a file.
-fn say_unreadable(alloc: Global, out: &mut Vec<u8>, file: &str, line: u64) -> Result<(), AllocError>
-    ensures { OnOk result (out.new.items ≡ out.old.items ++ unreadable_text file.now line) }
-{
-    let text = format!(in alloc; "input: {file} line {line}\n")?;
-    out.extend_from_slice(text.as_bytes())
 }
 
 #[cfg(test)]

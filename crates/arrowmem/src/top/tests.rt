@@ -245,6 +245,7 @@ fn an_output_is_written_by_one_call_behind_what_was_there(rt: HostRuntime) -> Re
         (["trace", "s"].as_slice(), [1].as_slice(), 6, "old\n"),
         (["trace", "gone"].as_slice(), [1].as_slice(), 6, "old\n"),
         (["trace"].as_slice(), [1].as_slice(), 6, "old\n"),
+        (["query", "p", "s"].as_slice(), [1].as_slice(), 6, "old\n"),
         (
             ["trace", "gone"].as_slice(),
             [2].as_slice(),
@@ -253,7 +254,8 @@ fn an_output_is_written_by_one_call_behind_what_was_there(rt: HostRuntime) -> Re
         ),
     ] {
         let script = b"buffer a ROOT 0\nbuffer b ROOT 0\n".as_slice();
-        let mut shelf = shelf(rt.alloc(), &[("s", script)], &[])?;
+        let files = [("s", script), ("p", PLAN.as_bytes())];
+        let mut shelf = shelf(rt.alloc(), &files, &[])?;
         let mut out = sink(rt.alloc(), b"old\n", failing)?;
         let status = run(rt.alloc(), words, &mut shelf, &mut out)?;
         assert_eq!(rt; status, want, "{words:?} with {failing:?}");
@@ -263,6 +265,198 @@ fn an_output_is_written_by_one_call_behind_what_was_there(rt: HostRuntime) -> Re
             "{words:?} with {failing:?}"
         );
         assert_eq!(rt; out.calls, 1, "{words:?} with {failing:?}");
+    }
+    Ok(())
+}
+
+const PLAN: &str =
+    "columns = [\"city:text\", \"mm:int\"]\nbatch = 2\ngroup = \"city\"\nsums = [\"mm\"]\n";
+
+const TABLE: &[u8] = b"city,mm\noslo,3\nbergen,\noslo,-1\nbergen,7\noslo,2\n";
+
+// What the query prints up to the root's limit, and from its children on.
+const ANSWER: &str = "city,sum_mm\nbergen,7\noslo,4\n#0 Allocator(ROOT) 0/66/228/";
+
+const CHILDREN: &str = " (res/actual/peak/limit)\n  \
+    #1 Allocator(scan) 0/0/50/9223372036854775807 (res/actual/peak/limit)\n  \
+    #2 Allocator(filter) 0/0/50/9223372036854775807 (res/actual/peak/limit)\n  \
+    #3 Allocator(project) 0/0/0/9223372036854775807 (res/actual/peak/limit)\n  \
+    #4 Allocator(sums) 0/0/162/9223372036854775807 (res/actual/peak/limit)\n  \
+    #5 Allocator(result) 0/66/66/9223372036854775807 (res/actual/peak/limit)\n\
+    chunk 37 size 16 owner #5 refs #5:1\n\
+    chunk 38 size 16 owner #5 refs #5:1\n\
+    chunk 39 size 2 owner #5 refs #5:1\n\
+    chunk 40 size 32 owner #5 refs #5:1\n\
+    refs 4\n\
+    closed 6\n";
+
+// The status of the words over a plan `p` and a table `d.csv`, what they print, and how often the shelf is asked.
+fn query(
+    alloc: Global,
+    words: &[&str],
+    plan: &str,
+    table: &[u8],
+    failing: &[u64],
+) -> Result<(u8, String, u64), Fail> {
+    let files = [("p", plan.as_bytes()), ("d.csv", table)];
+    let mut shelf = shelf(alloc, &files, failing)?;
+    let mut out = sink(alloc, b"", &[])?;
+    let status = run(alloc, words, &mut shelf, &mut out)?;
+    Ok((status, String::from_utf8(out.bytes)?, shelf.calls))
+}
+
+#[test]
+fn a_query_prints_its_answer_its_report_and_its_end(rt: HostRuntime) -> Result<(), Fail> {
+    let calls: [&[&str]; 4] = [
+        &["query", "p", "d.csv"],
+        &["query", "--workers", "1", "p", "d.csv"],
+        &["query", "p", "--workers", "1", "d.csv"],
+        &["query", "p", "d.csv", "--workers", "1"],
+    ];
+    let want = format!(in rt.alloc(); "{ANSWER}9223372036854775807{CHILDREN}")?;
+    for words in calls {
+        let (status, text, asked) = query(rt.alloc(), words, PLAN, TABLE, &[])?;
+        assert_eq!(rt; status, 0, "at {words:?}");
+        assert_eq!(rt; text.as_str(), want.as_str(), "at {words:?}");
+        assert_eq!(rt; asked, 2, "at {words:?}");
+    }
+    Ok(())
+}
+
+#[test]
+fn a_limit_that_is_passed_is_told_with_its_batch(rt: HostRuntime) -> Result<(), Fail> {
+    let fits = format!(in rt.alloc(); "{ANSWER}228{CHILDREN}")?;
+    for (limit, status, want) in [
+        (
+            "filter = 8",
+            4,
+            "full: #2 held 0 amount 16 limit 8 batch 1\n",
+        ),
+        ("root = 228", 0, fits.as_str()),
+        (
+            "root = 227",
+            4,
+            "full: #0 held 196 amount 32 limit 227 batch 0\n",
+        ),
+    ] {
+        let plan = format!(in rt.alloc(); "{PLAN}[limits]\n{limit}\n")?;
+        let words = ["query", "p", "d.csv"];
+        let (ended, text, asked) = query(rt.alloc(), &words, plan.as_str(), TABLE, &[])?;
+        assert_eq!(rt; ended, status, "at {limit}");
+        assert_eq!(rt; text.as_str(), want, "at {limit}");
+        assert_eq!(rt; asked, 2, "at {limit}");
+    }
+    Ok(())
+}
+
+#[test]
+fn a_bad_row_is_told_by_its_number_and_the_header_is_row_0(rt: HostRuntime) -> Result<(), Fail> {
+    for (table, want) in [
+        (
+            b"city,mm\noslo,3\nbergen,\noslo,-1\nbergen,x7\noslo,2\n".as_slice(),
+            "input: d.csv row 4\n",
+        ),
+        (
+            b"city,mm\noslo,3\n\"bergen,7\noslo,2\n",
+            "input: d.csv row 2\n",
+        ),
+        (b"city,sum\noslo,3\n", "input: d.csv row 0\n"),
+        (b"", "input: d.csv row 0\n"),
+    ] {
+        let words = ["query", "p", "d.csv"];
+        let (status, text, asked) = query(rt.alloc(), &words, PLAN, table, &[])?;
+        assert_eq!(rt; status, 3, "at {want}");
+        assert_eq!(rt; text.as_str(), want);
+        assert_eq!(rt; asked, 2, "at {want}");
+    }
+    Ok(())
+}
+
+#[test]
+fn the_table_is_asked_for_only_where_the_plan_has_a_reading(rt: HostRuntime) -> Result<(), Fail> {
+    for (plan, words, failing, want, line, calls) in [
+        (
+            "batch = 2\n",
+            ["query", "p", "d.csv"],
+            [].as_slice(),
+            3,
+            "input: p\n",
+            1,
+        ),
+        (
+            "",
+            ["query", "p", "gone"],
+            [].as_slice(),
+            3,
+            "input: p\n",
+            1,
+        ),
+        (
+            PLAN,
+            ["query", "gone", "d.csv"],
+            [].as_slice(),
+            5,
+            "read fault: gone\n",
+            1,
+        ),
+        (
+            PLAN,
+            ["query", "p", "gone"],
+            [].as_slice(),
+            5,
+            "read fault: gone\n",
+            2,
+        ),
+        (
+            PLAN,
+            ["query", "p", "d.csv"],
+            [1].as_slice(),
+            5,
+            "read fault: p\n",
+            1,
+        ),
+        (
+            PLAN,
+            ["query", "p", "d.csv"],
+            [2].as_slice(),
+            5,
+            "read fault: d.csv\n",
+            2,
+        ),
+    ] {
+        let (status, text, asked) = query(rt.alloc(), &words, plan, TABLE, failing)?;
+        assert_eq!(rt; status, want, "{words:?} with {failing:?}");
+        assert_eq!(rt; text.as_str(), line, "{words:?} with {failing:?}");
+        assert_eq!(rt; asked, calls, "{words:?} with {failing:?}");
+    }
+    Ok(())
+}
+
+#[test]
+fn a_query_has_two_files_and_one_worker_at_most_once(rt: HostRuntime) -> Result<(), Fail> {
+    let cases: [&[&str]; 13] = [
+        &["query"],
+        &["query", "p"],
+        &["query", "p", "d.csv", "x"],
+        &["query", "p", "d.csv", "--workers"],
+        &["query", "p", "d.csv", "--workers", "2"],
+        &["query", "p", "d.csv", "--workers", "01"],
+        &["query", "p", "d.csv", "--workers=1"],
+        &["query", "p", "d.csv", "--workers", "1", "--workers", "1"],
+        &["query", "--workers", "1", "--workers", "1"],
+        &["query", "-p", "d.csv"],
+        &["query", "p", "-"],
+        &["query", "p", ""],
+        &["--workers", "1", "query", "p", "d.csv"],
+    ];
+    for words in cases {
+        let (status, text, asked) = query(rt.alloc(), words, PLAN, TABLE, &[])?;
+        assert_eq!(rt; status, 2, "at {words:?}");
+        assert!(rt;
+            text.as_str().starts_with("usage: arrowmem "),
+            "at {words:?}"
+        );
+        assert_eq!(rt; asked, 0, "at {words:?}");
     }
     Ok(())
 }
