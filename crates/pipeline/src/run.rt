@@ -62,6 +62,11 @@ pub fn run_query<G: Gate>(
         return Err(QueryRefused::NoMemory);
     }
     let text = write_query(alloc, plan, rows, gate)?;
+    if out.is_empty() {
+        // A copy would double the memory of a large answer.
+        *out = text;
+        return Ok(());
+    }
     match out.extend_from_slice(&text) {
         Ok(()) => Ok(()),
         Err(AllocError) => Err(QueryRefused::NoMemory),
