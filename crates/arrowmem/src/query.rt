@@ -79,29 +79,31 @@ fn query_table<H: Shelf, G: Gate>(
 {
     let mut bytes = Vec::new(alloc);
     match shelf.read(table, &mut bytes, MAX_INPUT) {
-        Ok(()) => query_bytes(alloc, plan, table, &bytes, gate, out),
+        Ok(()) => query_bytes(alloc, plan, table, bytes, gate, out),
         Err(fault) => say_fault(alloc, out, table, fault),
     }
 }
 
-// Runs the query of a plan over the bytes of a table.
+// Runs the query of a plan over the bytes of a table, which are given up as soon as they are read.
 fn query_bytes<G: Gate>(
     alloc: Global,
     plan: &Plan,
     table: &str,
-    bytes: &[u8],
+    bytes: Vec<u8>,
     gate: &G,
     out: &mut Vec<u8>,
 ) -> Result<Status, AllocError>
     requires empty { out.old.items ≡ [] }
     requires fit { IsFit plan.now }
-    ensures answers { IfOk result (λ status. TableAnswers plan.now table.now (Ok bytes.now) status out.new.items) }
-    ensures lawful { result ≡ Ok Status.Done → (rows : List (List Cell)) → IsTable plan.now.columns bytes.now rows
+    ensures answers { IfOk result (λ status. TableAnswers plan.now table.now (Ok bytes.items) status out.new.items) }
+    ensures lawful { result ≡ Ok Status.Done → (rows : List (List Cell)) → IsTable plan.now.columns bytes.items rows
         → IsLawfulReport (query_report plan.now rows) }
     ensures ends { IfOk result EndsQuery }
 {
     bytes_have_one_reading();
-    match read_rows(alloc, plan.columns.as_slice(), bytes) {
+    let read = read_rows(alloc, plan.columns.as_slice(), &bytes);
+    drop(bytes);
+    match read {
         Ok(rows) => query_rows(alloc, plan, &rows, gate, out),
         Err(RowsRefused::Bad { row }) => {
             say_place(alloc, out, table, " row ", row)?;
