@@ -1,7 +1,7 @@
 -- What the making of a child tells besides what every memory does.
-use Rattle.std.proofs.Common.{◌≡◌, ℕ, ◌<◌, ◌≤◌, Bool, true, false, not, nat_lt, nat_le, refl, sym, subst, arith, Option, Some, None}
+use Rattle.std.proofs.Common.{◌≡◌, ℕ, ◌<◌, ◌≤◌, true, false, not, nat_lt, nat_le, arith, Option, Some, None}
 use Rattle.std.proofs.lemmas.Bool.{cond_both, leb-false, not-true}
-use Rattle.std.specs.Prelude.{IfOk, Result, Ok, Err}
+use Rattle.std.specs.Prelude.{IfOk, Result, Err}
 use Rattle.mem_num.specs.declared.alloc_id.AllocId.{AllocId}
 use Rattle.mem_num.specs.declared.bounds.TheConstants.{MOST_ALLOCATORS}
 use Rattle.mem_num.specs.declared.child_refused.ChildRefused.{ChildRefused}

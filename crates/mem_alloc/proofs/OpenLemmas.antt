@@ -1,9 +1,9 @@
 -- What is told of an allocator that is open, and of one that isn't.
-use Rattle.std.proofs.Common.{◌≡◌, ℕ, zero, suc, ◌<◌, ◌≤◌, List, [], ◌∷◌, get_or, Bool, true, false, not, ◌&&◌, ◌==◌, refl, sym, ◌∙◌, ap}
+use Rattle.std.proofs.Common.{◌≡◌, ℕ, zero, suc, ◌<◌, ◌≤◌, List, [], ◌∷◌, get_or, Bool, true, false, not, ◌==◌, refl, sym, ◌∙◌, ap}
 use Rattle.std.proofs.Common.{subst, arith, inl, inr, Option, Some, None}
 use Rattle.std.proofs.lemmas.Bool.{cases_Bool, cond_both, eqb-true, ne_eqb}
 use Rattle.std.proofs.lemmas.List.Folds.{Any-from_list_any, list_any_none}
-use Rattle.std.specs.Prelude.{if◌then◌else◌, All, AllPairs, IfErr, IfOk, IsErr, Result, Ok, Err}
+use Rattle.std.specs.Prelude.{if◌then◌else◌, AllPairs, IfErr, IsErr, Result, Ok, Err}
 use Rattle.std.specs.List.{find, list_any}
 use Rattle.std.specs.Option.{option_map, option_map_or}
 use Rattle.mem_num.specs.declared.alloc_id.AllocId.{AllocId}

@@ -1,5 +1,5 @@
 -- What a token of the running tree can pay for.
-use Rattle.std.proofs.Common.{◌≡◌, ◌≤◌, ◌==◌, ℕ, List, [], ◌∷◌, arith, sym, subst, true, false}
+use Rattle.std.proofs.Common.{◌≤◌, ◌==◌, ℕ, [], ◌∷◌, arith, subst}
 use Rattle.std.proofs.lemmas.Bool.{cond_both, eqb-true}
 use Rattle.std.proofs.lemmas.List.Sums.{sum_by-cons}
 use Rattle.std.specs.Prelude.{if◌then◌else◌}

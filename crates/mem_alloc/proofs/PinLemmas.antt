@@ -1,6 +1,6 @@
 -- Lists of counts.
-use Rattle.std.proofs.Common.{◌≡◌, ◌≢◌, ℕ, ◌+◌, ◌-◌, ◌<◌, ◌≤◌, List, length, get_or, set, replicate, arith, inl, inr, ap, ◌∙◌}
-use Rattle.std.proofs.Common.{get_or-set_other, get_or-set_same, length-set, lit<, ◌^◌, ◌==◌, true, false}
+use Rattle.std.proofs.Common.{◌≡◌, ◌≢◌, ℕ, ◌+◌, ◌<◌, ◌≤◌, List, length, get_or, set, replicate, arith, inl, inr, ap, ◌∙◌}
+use Rattle.std.proofs.Common.{get_or-set_other, get_or-set_same, length-set, lit<, ◌^◌, ◌==◌}
 use Rattle.std.proofs.lemmas.Bool.{cases_lt, cases_eq, cond-true, cond-false, eq-eqb, ne_eqb}
 use Rattle.std.proofs.lemmas.List.{get_or-replicate, get_or_past, length-replicate}
 use Rattle.mem_num.specs.declared.alloc_id.AllocId.{AllocId}

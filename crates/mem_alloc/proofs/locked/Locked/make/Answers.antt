@@ -1,5 +1,4 @@
 use Rattle.std.proofs.Common.{sym, subst}
-use Rattle.mem_model.specs.Child.{child_result}
 use Rattle.mem_alloc.specs.RunningToken.{pins_of}
 use Rattle.mem_alloc.proofs.ChildLemmas.{TellsChild, tells-child, unpinned-child}
 use Rattle.mem_alloc.proofs.locked.Locked.make.Goals as goal

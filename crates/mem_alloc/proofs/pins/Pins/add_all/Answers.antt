@@ -1,4 +1,4 @@
-use Rattle.std.proofs.Common.{◌≡◌, ◌+◌, ℕ, List, length, set, get_or, arith, length-set, subst}
+use Rattle.std.proofs.Common.{◌≡◌, ◌+◌, ℕ, List, arith, length-set, subst}
 use Rattle.std.specs.List.{slice_index}
 use Rattle.mem_alloc.proofs.PinLemmas.{summed_more, summed_all, set_small}
 use Rattle.mem_alloc.proofs.pins.Pins.add_all.Goals as goal
